@@ -1,15 +1,11 @@
 -- Items that are equal to one before them, and names that are looked for.
-use Rattle.std.proofs.Common.{◌≡◌, ◌∙◌, ℕ, ◌+◌, ◌<◌, Bool, true, false, cond, List, [], ◌∷◌, ◌++◌, length, map, take, drop, get_or, bytes_eq, refl, ap, Bor, nat_cmp, is_eq, append_assoc}
-use Rattle.std.specs.Prelude.{◌||◌, not}
-use Rattle.std.specs.List.{list_any}
-use Rattle.std.specs.Ordering.{eq_by_cmp}
-use Rattle.std.specs.Cmp.Lexicographic.{slice_cmp}
-use Rattle.std.proofs.lemmas.List.{map_more, drop_more, map-append}
+use Rattle.sv_config.proofs.Prelude.{◌≡◌, ◌∙◌, ℕ, ◌+◌, ◌<◌, true, cond, List, [], ◌∷◌, ◌++◌, length, map, take, drop, get_or, bytes_eq, refl, ap, Bor}
+use Rattle.sv_config.proofs.Prelude.{append_assoc, ◌||◌, not, list_any, eq_by_cmp, slice_cmp, drop_more, map-append, Text, Spot, spot, repeated}
+use Rattle.sv_config.proofs.Prelude.{repeated_behind}
+use Rattle.std.proofs.Common.{Bool, false, nat_cmp, is_eq}
+use Rattle.std.proofs.lemmas.List.{map_more}
 use Rattle.std.proofs.lemmas.List.Folds.{list_any-append}
 use Rattle.std.proofs.lemmas.Map.Text.{is_eq-slice_cmp}
-use Rattle.sv_mapping.specs.Path.{Text}
-use Rattle.sv_config.specs.Place.{Spot, spot}
-use Rattle.sv_config.specs.Repeats.{repeated, repeated_behind}
 use Rattle.sv_config.specs.declared.place.FaultPlace.{FaultPlace}
 
 or_last : (a b : Bool) → cond a true b ≡ (b || (a || false))

@@ -1,10 +1,8 @@
 -- The items of a viewed array as a list, and tests of lists that are mapped.
-use Rattle.std.proofs.Common.{◌≡◌, List, [], ◌∷◌, map, length, refl, ap}
-use Rattle.std.specs.Prelude.{suc, ◌||◌, Bool, String}
+use Rattle.sv_config.proofs.Prelude.{◌≡◌, List, [], ◌∷◌, map, length, refl, ap, ◌||◌, list_any, view, members_view, Value}
+use Rattle.std.specs.Prelude.{suc, Bool, String}
 use Rattle.std.specs.declared.alloc.Global.{Global}
-use Rattle.std.specs.List.{list_any}
-use Rattle.toml.specs.View.{view, items_view, members_view}
-use Rattle.toml.specs.declared.value.Value.{Value}
+use Rattle.toml.specs.View.{items_view}
 use Rattle.sv_config.specs.Document.{items_list, size}
 
 pub items_list_view : (vs : List Value) → items_list (items_view vs) ≡ map view vs

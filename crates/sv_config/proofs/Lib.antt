@@ -1,3 +1,4 @@
+mod Prelude
 pub mod DocumentLemmas
 pub mod MappingLemmas
 pub mod AgainLemmas

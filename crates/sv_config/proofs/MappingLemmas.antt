@@ -1,12 +1,7 @@
 -- Servlets whose patterns are mapped one after another.
-use Rattle.std.proofs.Common.{◌≡◌, ℕ, ◌+◌, ◌<◌, List, length, map, drop, get_or, Bor, String, BTreeMap, Global}
-use Rattle.std.specs.Prelude.{codes, fold}
-use Rattle.std.proofs.lemmas.List.{drop_more}
-use Rattle.toml.specs.View.{table_view}
-use Rattle.toml.specs.declared.value.Value.{Value}
+use Rattle.sv_config.proofs.Prelude.{◌≡◌, ℕ, ◌+◌, ◌<◌, List, length, map, drop, get_or, Bor, String, BTreeMap, Global, codes, fold, drop_more, table_view}
+use Rattle.sv_config.proofs.Prelude.{Value, texts_at, mapped_from, with_pattern}
 use Rattle.sv_mapping.specs.Mappings.{Table}
-use Rattle.sv_config.specs.Document.{texts_at}
-use Rattle.sv_config.specs.Values.{mapped_from, with_pattern}
 
 pub mapped_next : (servlets : List (Bor (BTreeMap (String Global) Value))) (i : ℕ) (d : Bor (BTreeMap (String Global) Value)) (table : Table) → i < length servlets
     → mapped_from i (map (λ t. table_view t.now) (drop i servlets)) table

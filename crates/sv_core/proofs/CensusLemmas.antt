@@ -1,11 +1,7 @@
 -- A census is a walk over the places of a table.
-use Rattle.std.proofs.Common.{◌≡◌, ℕ, zero, suc, ◌+◌, ◌<◌, ◌≤◌, List, [], ◌∷◌, ◌++◌, length, get_or, take, arith, refl, sym, ap, ◌∙◌, subst}
-use Rattle.sv_model.specs.declared.key.Key.{Key}
-use Rattle.sv_model.specs.declared.state.KeyState.{KeyState}
-use Rattle.sv_model.specs.declared.state.KeyState.TheVariants.{Active, Sent, Gone, Ended}
-use Rattle.sv_core.specs.Order.{Entry}
-use Rattle.sv_core.specs.Places.{Place, state_at, seen}
-use Rattle.sv_core.specs.Census.{with_one, with_all, total}
+use Rattle.sv_core.proofs.Prelude.{◌≡◌, ℕ, zero, suc, ◌+◌, ◌<◌, ◌≤◌, List, [], ◌∷◌, ◌++◌, length, get_or, take, arith, refl, sym, ap, ◌∙◌, subst, Key, KeyState}
+use Rattle.sv_core.proofs.Prelude.{Active, Sent, Gone, Ended, Entry, Place, state_at, seen, with_all, total}
+use Rattle.sv_core.specs.Census.{with_one}
 use Rattle.sv_core.specs.declared.census.Census.{Census}
 use Rattle.sv_core.proofs.PlaceLemmas.{seen_more}
 

@@ -1,20 +1,11 @@
 -- Keys in their order in two parts.
-use Rattle.std.proofs.Common.{◌≡◌, ℕ, ◌<◌, ◌≤◌, Bool, true, false, cond, Option, Some, None, List, [], ◌∷◌, ◌++◌, length, arith, refl, sym, ap, ◌∙◌, subst}
-use Rattle.std.specs.Prelude.{T, nat_lt, nat_le}
-use Rattle.std.specs.List.{list_any}
-use Rattle.std.specs.FinMap.{find, put, is_sorted}
-use Rattle.std.specs.FinMap.Entries.{below_all, by_order}
-use Rattle.std.specs.Ordering.{is_lt, is_eq, nat_cmp, ordering_then}
-use Rattle.std.specs.declared.cmp.Ordering.TheVariants.{Less, Equal, Greater}
-use Rattle.std.proofs.lemmas.Bool.Decides.{nat_tests}
+use Rattle.sv_core.proofs.Prelude.{◌≡◌, ℕ, ◌<◌, ◌≤◌, Bool, true, false, cond, Option, Some, None, List, [], ◌∷◌, ◌++◌, length, arith, refl, sym, ap, ◌∙◌, subst}
+use Rattle.sv_core.proofs.Prelude.{T, nat_lt, nat_le, list_any, find, put, is_sorted, below_all, by_order, is_lt, is_eq, nat_cmp, Less, Equal, Greater}
+use Rattle.sv_core.proofs.Prelude.{nat_tests, Key, KeyState, Gone, key_cmp, same_key, is_over, first_over, Entry, Place, Rises, AreLow, AreHigh, are_within}
+use Rattle.sv_core.proofs.Prelude.{AreWithin, seen, state_at, erase}
+use Rattle.std.specs.Ordering.{ordering_then}
 use Rattle.std.proofs.lemmas.List.Folds.{list_any_at}
-use Rattle.sv_model.specs.declared.key.Key.{Key}
-use Rattle.sv_model.specs.declared.state.KeyState.{KeyState}
-use Rattle.sv_model.specs.declared.state.KeyState.TheVariants.{Gone}
-use Rattle.sv_model.specs.Keys.{key_cmp, same_key}
-use Rattle.sv_model.specs.Time.{is_over, first_over}
-use Rattle.sv_core.specs.Order.{Entry}
-use Rattle.sv_core.specs.Places.{Place, Rises, are_low, AreLow, are_high, AreHigh, are_within, AreWithin, seen, state_at, erase}
+use Rattle.sv_core.specs.Places.{are_low, are_high}
 use Rattle.sv_core.proofs.OrderLemmas.{first, second, both, less}
 
 -- ---- homes

@@ -1,18 +1,10 @@
 -- A record that may stand after others has its serial.
-use Rattle.std.proofs.Common.{◌≡◌, ◌≢◌, ℕ, ◌+◌, ◌≤◌, Bool, true, false, arith, refl}
-use Rattle.std.specs.Prelude.{not, ◌==◌, ◌&&◌}
-use Rattle.std.proofs.lemmas.Bool.{eqb-false}
-use Rattle.sv_model.specs.declared.key.Key.{Key}
-use Rattle.sv_model.specs.declared.node.Setting.{Setting}
-use Rattle.sv_model.specs.declared.node.Stage.{Stage}
-use Rattle.sv_model.specs.declared.record.Change.{Change}
+use Rattle.sv_core.proofs.Prelude.{◌≡◌, ◌≢◌, ℕ, ◌+◌, ◌≤◌, Bool, true, false, arith, refl, not, ◌==◌, ◌&&◌, eqb-false, Key, Setting, Stage, Change, Record}
+use Rattle.sv_core.proofs.Prelude.{Durable, last_number, has_space, applied, fits_named, fits_born, is_next, Fits, Boot, Commit, Expired, Taken, State}
+use Rattle.sv_core.proofs.Prelude.{Counters, Forgets, Counted, HasSerial}
 use Rattle.sv_model.specs.declared.record.Change.TheVariants.{Absent as Unchanged, Alive as ChangeAlive, Ended as ChangeEnded}
-use Rattle.sv_model.specs.declared.record.Record.{Record}
-use Rattle.sv_model.specs.declared.record.Record.TheVariants.{Boot, Commit, Expired, Sent, Taken, Gone, State, Counters, Forgets, Counted}
-use Rattle.sv_model.specs.NodeState.{Durable, last_number, has_space}
-use Rattle.sv_model.specs.Replay.{applied}
-use Rattle.sv_model.specs.Fitting.{fits_named, fits_born, is_next, Fits}
-use Rattle.sv_core.specs.Effect.{LeavesSerial, HasSerial}
+use Rattle.sv_model.specs.declared.record.Record.TheVariants.{Sent, Gone}
+use Rattle.sv_core.specs.Effect.{LeavesSerial}
 
 third : (a b c d : Bool) → (a && (b && (not c && d))) ≡ true → c ≡ false
 third true true false d is = refl

@@ -1,17 +1,8 @@
 -- A key that is taken out of keys in their order.
-use Rattle.std.proofs.Common.{◌≡◌, ◌≢◌, ℕ, Bool, true, false, cond, Option, Some, None, List, [], ◌∷◌, refl, sym, ap, ◌∙◌, subst, ⊎_elim}
-use Rattle.std.specs.Prelude.{T, ◌==◌, not, nat_lt}
-use Rattle.std.specs.Option.{unwrap_or}
-use Rattle.std.specs.FinMap.{from_entries, remove, entries, find, is_sorted, get-remove, get-entries, get-from_entries, entries_sorted, same_map}
-use Rattle.std.specs.FinMap.Entries.{below_all}
-use Rattle.std.specs.Ordering.{is_lt, is_eq}
-use Rattle.sv_model.specs.declared.key.Key.{Key}
-use Rattle.sv_model.specs.declared.state.KeyState.{KeyState}
-use Rattle.sv_model.specs.Keys.{key_cmp, same_key}
-use Rattle.sv_model.specs.NodeState.{Keys}
-use Rattle.sv_model.proofs.KeyLemmas.{keys_total, exact_keys, keys_tell}
-use Rattle.sv_core.specs.Order.{Entry}
-use Rattle.sv_core.specs.Places.{Place, Rises, are_within, is_free, are_apart, is_handed_over, state_at, seen, erase, sent_among}
+use Rattle.sv_core.proofs.Prelude.{◌≡◌, ◌≢◌, ℕ, Bool, true, false, cond, Option, Some, None, List, [], ◌∷◌, refl, sym, ap, ◌∙◌, subst, ⊎_elim, T, ◌==◌, not}
+use Rattle.sv_core.proofs.Prelude.{nat_lt, unwrap_or, from_entries, remove, entries, find, is_sorted, get-remove, get-entries, get-from_entries, entries_sorted}
+use Rattle.sv_core.proofs.Prelude.{same_map, below_all, is_lt, is_eq, Key, KeyState, key_cmp, same_key, Keys, Entry, Place, Rises, are_within, is_free}
+use Rattle.sv_core.proofs.Prelude.{are_apart, is_handed_over, state_at, seen, erase, sent_among, keys_total, exact_keys, keys_tell}
 use Rattle.sv_core.proofs.OrderLemmas.{first, second, both, less}
 use Rattle.sv_core.proofs.PlaceLemmas.{is_apart, free_found, apart_is}
 

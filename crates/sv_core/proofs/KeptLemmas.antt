@@ -1,18 +1,8 @@
 -- What holds of each key that is known goes on holding after records.
-use Rattle.std.proofs.Common.{◌≡◌, ◌≢◌, ℕ, suc, ◌+◌, ◌-◌, ◌<◌, ◌≤◌, Bool, true, false, cond, Option, Some, None, arith, refl, sym, ap, ◌∙◌, subst, ⊎_elim}
-use Rattle.std.specs.Prelude.{is_some, ◌&&◌, nat_lt}
-use Rattle.std.specs.FinMap.{get, insert, remove, len, contains_key, get-insert, get-remove, len-insert, len-remove}
-use Rattle.std.proofs.lemmas.Bool.{cond_both}
-use Rattle.std.proofs.lemmas.Bool.Decides.{leb_tells}
-use Rattle.std.proofs.lemmas.Option.{same_Some}
-use Rattle.sv_model.specs.declared.key.Key.{Key}
-use Rattle.sv_model.specs.declared.session.Session.{Session}
-use Rattle.sv_model.specs.declared.state.KeyState.{KeyState}
-use Rattle.sv_model.specs.declared.state.KeyState.TheVariants.{Active, Sent, Gone, Ended}
-use Rattle.sv_model.specs.Keys.{same_key}
-use Rattle.sv_model.specs.NodeState.{Keys, is_own}
-use Rattle.sv_model.specs.Serving.{kept_at, over_at, ended_at}
-use Rattle.sv_model.proofs.KeyLemmas.{keys_total, keys_tell}
+use Rattle.sv_core.proofs.Prelude.{◌≡◌, ◌≢◌, ℕ, suc, ◌+◌, ◌-◌, ◌<◌, ◌≤◌, Bool, true, false, cond, Option, Some, None, arith, refl, sym, ap, ◌∙◌, subst, ⊎_elim}
+use Rattle.sv_core.proofs.Prelude.{is_some, ◌&&◌, nat_lt, get, insert, remove, len, get-insert, get-remove, cond_both, leb_tells, same_Some, Key, Session}
+use Rattle.sv_core.proofs.Prelude.{KeyState, Active, Sent, Gone, Ended, same_key, Keys, is_own, kept_at, over_at, ended_at, keys_total, keys_tell}
+use Rattle.std.specs.FinMap.{contains_key, len-insert, len-remove}
 
 pub left : (a b : Bool) → (a && b) ≡ true → a ≡ true
 left true b is = refl

@@ -1,3 +1,4 @@
+mod Prelude
 pub mod OrderLemmas
 pub mod PlaceLemmas
 pub mod DirectoryLemmas

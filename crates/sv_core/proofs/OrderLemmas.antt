@@ -1,15 +1,7 @@
 -- Keys in their order.
-use Rattle.std.proofs.Common.{◌≡◌, ◌≢◌, Bool, true, false, cond, Some, None, List, [], ◌∷◌, refl, sym, ap, ◌∙◌, ⊎_elim}
-use Rattle.std.specs.Prelude.{T, ◌&&◌}
-use Rattle.std.specs.FinMap.{find}
-use Rattle.std.specs.FinMap.Entries.{below_all}
-use Rattle.std.specs.Ordering.{is_lt, is_eq, ordering_reverse}
-use Rattle.std.specs.declared.cmp.Ordering.{Ordering}
-use Rattle.std.specs.declared.cmp.Ordering.TheVariants.{Less, Equal, Greater}
-use Rattle.sv_model.specs.declared.key.Key.{Key}
-use Rattle.sv_model.specs.Keys.{key_cmp, same_key}
-use Rattle.sv_model.proofs.KeyLemmas.{keys_total, keys_tell}
-use Rattle.sv_core.specs.Order.{Entry}
+use Rattle.sv_core.proofs.Prelude.{◌≡◌, ◌≢◌, Bool, true, false, cond, Some, None, List, [], ◌∷◌, refl, sym, ap, ◌∙◌, ⊎_elim, T, ◌&&◌, find, below_all, is_lt}
+use Rattle.sv_core.proofs.Prelude.{is_eq, Ordering, Less, Equal, Greater, Key, key_cmp, same_key, Entry, keys_total, keys_tell}
+use Rattle.std.specs.Ordering.{ordering_reverse}
 
 pub first : (a b : Bool) → T (a && b) → T a
 first true b p = tt

@@ -1,23 +1,13 @@
 -- Keys in their order, each with the place of what is known of it.
-use Rattle.std.proofs.Common.{◌≡◌, ◌≢◌, ℕ, zero, suc, ◌+◌, ◌<◌, ◌≤◌, Bool, true, false, cond, Option, Some, None, Result, Ok, Err, IfOk, IfErr, List, [], ◌∷◌, ◌++◌, ◌-◌, inl, inr, length, get_or, take, drop, set, arith, refl, sym, ap, ◌∙◌, subst}
-use Rattle.std.specs.Prelude.{T, ◌&&◌, ◌==◌, not, nat_lt, ⊤, IsOk, is_ok}
-use Rattle.std.specs.Option.{option_map, unwrap_or}
-use Rattle.std.specs.List.{AllWithin}
-use Rattle.std.specs.List.Sorted.{IsSearchInRange, IsBinarySearchResult, IsSortedBy}
-use Rattle.std.specs.FinMap.{find, put, is_sorted}
-use Rattle.std.specs.FinMap.Entries.{below_all, by_order, is_sorted-put, find-put, same_entries}
-use Rattle.std.specs.Ordering.{is_lt, is_eq}
-use Rattle.std.specs.declared.cmp.Ordering.{Ordering}
-use Rattle.std.specs.declared.cmp.Ordering.TheVariants.{Less, Equal, Greater}
-use Rattle.std.proofs.lemmas.List.Sorted.{searchable_from_sorted}
+use Rattle.sv_core.proofs.Prelude.{◌≡◌, ◌≢◌, ℕ, zero, suc, ◌+◌, ◌<◌, ◌≤◌, Bool, true, false, cond, Option, Some, None, Result, Ok, Err, IfOk, IfErr, List, []}
+use Rattle.sv_core.proofs.Prelude.{◌∷◌, ◌++◌, ◌-◌, inl, inr, length, get_or, take, drop, set, arith, refl, sym, ap, ◌∙◌, subst, T, ◌&&◌, ◌==◌, not, nat_lt}
+use Rattle.sv_core.proofs.Prelude.{option_map, unwrap_or, AllWithin, IsSearchInRange, IsBinarySearchResult, IsSortedBy, find, put, is_sorted, below_all}
+use Rattle.sv_core.proofs.Prelude.{by_order, is_sorted-put, is_lt, is_eq, Ordering, Less, Equal, Greater, searchable_from_sorted, nat_tests, Key, KeyState}
+use Rattle.sv_core.proofs.Prelude.{key_cmp, same_key, is_over, first_over, Place, Rises, are_within, AreWithin, is_free, are_apart, state_at, seen, erase}
+use Rattle.sv_core.proofs.Prelude.{IsFound, IsGap, keys_total, exact_keys}
+use Rattle.std.specs.Prelude.{⊤, IsOk, is_ok}
+use Rattle.std.specs.FinMap.Entries.{find-put, same_entries}
 use Rattle.std.proofs.lemmas.Bool.{cases_eq}
-use Rattle.std.proofs.lemmas.Bool.Decides.{nat_tests}
-use Rattle.sv_model.specs.declared.key.Key.{Key}
-use Rattle.sv_model.specs.declared.state.KeyState.{KeyState}
-use Rattle.sv_model.specs.Keys.{key_cmp, same_key}
-use Rattle.sv_model.specs.Time.{is_over, first_over}
-use Rattle.sv_model.proofs.KeyLemmas.{keys_total, exact_keys}
-use Rattle.sv_core.specs.Places.{Place, Rises, are_within, AreWithin, is_free, are_apart, state_at, seen, erase, IsFound, IsGap}
 use Rattle.sv_core.proofs.OrderLemmas.{first, second, both, less, reversed, one_key}
 
 -- ---- where a key stands

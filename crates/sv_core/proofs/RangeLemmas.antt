@@ -1,24 +1,14 @@
 -- Records within the ranges of the formats leave a node within them.
-use Rattle.std.proofs.Common.{◌≡◌, ℕ, ◌<◌, ◌≤◌, Option, Some, None, List, [], ◌∷◌, arith, refl, sym, ◌∙◌}
+use Rattle.sv_core.proofs.Prelude.{◌≡◌, ℕ, ◌<◌, ◌≤◌, Option, Some, None, List, [], ◌∷◌, arith, refl, sym, ◌∙◌, empty, get, get-empty, Key, KeyState, Active}
+use Rattle.sv_core.proofs.Prelude.{Sent, Gone, Change, Record, idle, Keys, Durable, Node, last_number, blank, with_named, with_born, next_by, keys_behind}
+use Rattle.sv_core.proofs.Prelude.{next_behind, home_behind, applied, replayed, Setting, IsJournaled, starts, Boot, Commit, Expired, Taken, State, Counters}
+use Rattle.sv_core.proofs.Prelude.{Forgets, Counted, key_cmp, cond_both, IsSetting, IsRangedStep, IsRanged}
 use Rattle.std.specs.List.{AllByRecursion}
-use Rattle.std.specs.FinMap.{empty, get, get-empty}
-use Rattle.sv_model.specs.declared.key.Key.{Key}
-use Rattle.sv_model.specs.declared.state.KeyState.{KeyState}
-use Rattle.sv_model.specs.declared.state.KeyState.TheVariants.{Active, Sent, Gone}
-use Rattle.sv_model.specs.declared.record.Change.{Change}
 use Rattle.sv_model.specs.declared.record.Change.TheVariants.{Absent as Unchanged, Alive as ChangeAlive, Ended as ChangeEnded}
-use Rattle.sv_model.specs.declared.record.Record.{Record}
-use Rattle.sv_model.specs.declared.record.Record.TheVariants.{Boot, Commit, Expired, Sent as SentRecord, Taken, Gone as GoneRecord, State, Counters, Forgets, Counted}
-use Rattle.sv_model.specs.Keys.{key_cmp, IsKey, IsNode}
-use Rattle.sv_model.specs.Decision.{idle}
+use Rattle.sv_model.specs.declared.record.Record.TheVariants.{Sent as SentRecord, Gone as GoneRecord}
+use Rattle.sv_model.specs.Keys.{IsKey, IsNode}
 use Rattle.std.specs.Prelude.{◌+◌, IfSome}
-use Rattle.std.proofs.lemmas.Bool.{cond_both}
-use Rattle.sv_model.specs.NodeState.{Keys, Durable, Node, last_number}
-use Rattle.sv_model.specs.Replay.{blank, with_named, with_born, next_by, keys_behind, next_behind, home_behind, applied, replayed}
-use Rattle.sv_model.specs.declared.node.Setting.{Setting}
-use Rattle.sv_model.specs.Journaled.{IsJournaled}
-use Rattle.sv_core.specs.Core.{starts}
-use Rattle.sv_model.specs.Ranges.{IsSetting, IsRangedStep, IsChange, IsState, IsRecord, IsRanged}
+use Rattle.sv_model.specs.Ranges.{IsChange, IsState, IsRecord}
 use Rattle.sv_core.proofs.KeptLemmas.{AreAll, all_with, all_kept, all_over, all_ended}
 
 abbrev pub IsEntry : Key → KeyState → Type 0

@@ -1,16 +1,7 @@
 -- Of the keys in their order, those whose session was handed over.
-use Rattle.std.proofs.Common.{◌≡◌, ℕ, Bool, true, false, cond, List, [], ◌∷◌, refl, sym, ap, ◌∙◌, subst}
-use Rattle.std.specs.Prelude.{T, nat_lt}
-use Rattle.std.specs.FinMap.{put}
-use Rattle.std.specs.FinMap.Entries.{below_all, by_order}
-use Rattle.std.specs.Ordering.{is_eq, is_lt}
-use Rattle.std.specs.declared.cmp.Ordering.{Ordering}
-use Rattle.std.specs.declared.cmp.Ordering.TheVariants.{Less, Equal, Greater}
-use Rattle.sv_model.specs.declared.key.Key.{Key}
-use Rattle.sv_model.specs.declared.state.KeyState.{KeyState}
-use Rattle.sv_model.specs.Keys.{key_cmp}
-use Rattle.sv_model.proofs.KeyLemmas.{keys_total, exact_keys}
-use Rattle.sv_core.specs.Places.{Place, Rises, AreWithin, state_at, erase, marked, is_handed_over, sent_among}
+use Rattle.sv_core.proofs.Prelude.{◌≡◌, ℕ, Bool, true, false, cond, List, [], ◌∷◌, refl, sym, ap, ◌∙◌, subst, T, nat_lt, put, below_all, by_order, is_eq, is_lt}
+use Rattle.sv_core.proofs.Prelude.{Ordering, Less, Equal, Greater, Key, KeyState, key_cmp, Place, Rises, AreWithin, state_at, erase, marked, is_handed_over}
+use Rattle.sv_core.proofs.Prelude.{sent_among, keys_total, exact_keys}
 use Rattle.sv_core.proofs.OrderLemmas.{first, second, both, less}
 use Rattle.sv_core.proofs.PlaceLemmas.{AreSame}
 

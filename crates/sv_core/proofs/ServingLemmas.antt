@@ -1,25 +1,14 @@
 -- A request that is answered.
-use Rattle.std.proofs.Common.{◌≡◌, ℕ, Bool, Option, Some, None, List, [], ◌∷◌, refl, ap, ◌∙◌}
-use Rattle.std.specs.Prelude.{is_some}
-use Rattle.sv_model.specs.declared.key.Key.{Key}
-use Rattle.sv_model.specs.declared.key.Secret.{Secret}
-use Rattle.sv_model.specs.declared.key.Moment.{Moment}
-use Rattle.sv_model.specs.declared.node.Setting.{Setting}
-use Rattle.sv_model.specs.declared.node.Parked.{Parked}
-use Rattle.sv_model.specs.declared.request.Request.{Request}
-use Rattle.sv_model.specs.declared.commit.Commit.TheVariants.{Served}
-use Rattle.sv_model.specs.declared.outcome.Outcome.{Outcome}
+use Rattle.sv_core.proofs.Prelude.{◌≡◌, ℕ, Bool, Option, Some, None, List, [], ◌∷◌, refl, ap, ◌∙◌, is_some, Key, Secret, Moment, Setting, Parked, Request}
+use Rattle.sv_core.proofs.Prelude.{Served, Outcome, Birth, Answer, EngineMeaning, Durable, Node, Absent, Alive, named_change, born_change, entry_of, next_with}
+use Rattle.sv_core.proofs.Prelude.{decision_of}
 use Rattle.sv_model.specs.declared.outcome.Fate.{Fate}
 use Rattle.sv_model.specs.declared.outcome.Fate.TheVariants.{Untouched, Kept, Ended as FateEnded}
-use Rattle.sv_model.specs.declared.outcome.Birth.{Birth}
-use Rattle.sv_model.specs.declared.outcome.Birth.TheVariants.{Absent, Alive, Ended as BirthEnded}
-use Rattle.sv_model.specs.declared.output.Output.TheVariants.{Answer}
-use Rattle.sv_model.specs.Engine.{EngineMeaning}
-use Rattle.sv_model.specs.NodeState.{Durable, Node}
+use Rattle.sv_model.specs.declared.outcome.Birth.TheVariants.{Ended as BirthEnded}
 use Rattle.sv_model.specs.Replay.{applied_if}
-use Rattle.sv_model.specs.Serving.{fresh_of, held_in, token_of, named_change, born_change, entry_of, fated_keys, born_keys, next_with, answered}
+use Rattle.sv_model.specs.Serving.{fresh_of, held_in, token_of, fated_keys, born_keys, answered}
 use Rattle.sv_core.specs.declared.decision.Decision.{Decision}
-use Rattle.sv_core.specs.Decision.{decision_of, parked_by, want_by}
+use Rattle.sv_core.specs.Decision.{parked_by, want_by}
 use Rattle.sv_core.specs.Waiting.{waiting_without, parked_without}
 
 abbrev pub behind : Option (Key × Secret) → Key → Fate → Birth → Durable → Durable

@@ -1,23 +1,13 @@
 -- The requests that can be served, after a record.
-use Rattle.std.proofs.Common.{◌≡◌, ◌≢◌, ℕ, Bool, true, false, cond, Option, Some, None, List, refl, sym, ap, ◌∙◌, ⊎_elim}
-use Rattle.std.specs.FinMap.{get, insert, get-insert}
-use Rattle.sv_model.specs.declared.key.Key.{Key}
-use Rattle.sv_model.specs.declared.session.Session.{Session}
-use Rattle.sv_model.specs.declared.state.KeyState.{KeyState}
-use Rattle.sv_model.specs.declared.state.KeyState.TheVariants.{Active, Sent, Gone, Ended}
-use Rattle.sv_model.specs.declared.node.Parked.{Parked}
-use Rattle.sv_model.specs.declared.record.Change.{Change}
+use Rattle.sv_core.proofs.Prelude.{◌≡◌, ◌≢◌, ℕ, Bool, true, false, cond, Option, Some, None, List, refl, sym, ap, ◌∙◌, ⊎_elim, get, insert, get-insert, Key}
+use Rattle.sv_core.proofs.Prelude.{Session, KeyState, Active, Sent, Gone, Ended, Parked, Change, Record, same_key, Keys, is_settled, kept_at, ended_at}
+use Rattle.sv_core.proofs.Prelude.{durable_by, Boot, Commit, Expired, Taken, State, Counters, Forgets, Counted, with_named, with_born, keys_behind, next_behind}
+use Rattle.sv_core.proofs.Prelude.{home_behind, applied, keys_total, keys_tell, is_here, wants_where, wants_here, settles, settled_by}
 use Rattle.sv_model.specs.declared.record.Change.TheVariants.{Absent as Unchanged, Alive as ChangeAlive, Ended as ChangeEnded}
-use Rattle.sv_model.specs.declared.record.Record.{Record}
-use Rattle.sv_model.specs.declared.record.Record.TheVariants.{Boot, Commit, Expired, Sent as SentRecord, Taken, Gone as GoneRecord, State, Counters, Forgets, Counted}
-use Rattle.sv_model.specs.Keys.{same_key}
-use Rattle.sv_model.specs.NodeState.{Keys, is_settled}
-use Rattle.sv_model.specs.Replay.{with_named, with_born, keys_behind, boot_behind, next_behind, home_behind, applied}
-use Rattle.sv_model.specs.Serving.{kept_at, ended_at}
-use Rattle.sv_model.proofs.KeyLemmas.{keys_total, keys_tell}
+use Rattle.sv_model.specs.declared.record.Record.TheVariants.{Sent as SentRecord, Gone as GoneRecord}
+use Rattle.sv_model.specs.Replay.{boot_behind}
 use Rattle.sv_model.proofs.KnownLemmas.{plainly_known}
-use Rattle.sv_core.specs.Table.{durable_by}
-use Rattle.sv_core.specs.Wants.{is_here, wants_where, wants_here, settles_born, settles, settled_by}
+use Rattle.sv_core.specs.Wants.{settles_born}
 use Rattle.sv_core.proofs.WantLemmas.{same_where}
 
 -- it can be served by what is kept

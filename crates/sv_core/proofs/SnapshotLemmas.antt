@@ -1,28 +1,14 @@
 -- The records of a snapshot may stand after one another, and give what the node keeps.
-use Rattle.std.proofs.Common.{◌≡◌, ℕ, suc, ◌+◌, ◌<◌, ◌≤◌, false, cond, Option, Some, None, List, [], ◌∷◌, ◌++◌, map, length, get_or, take, arith, refl, sym, ap, ◌∙◌, subst, inl, inr}
-use Rattle.std.specs.Prelude.{T, not, ◌&&◌, is_none}
-use Rattle.std.specs.Ordering.{is_eq}
-use Rattle.std.specs.declared.cmp.Ordering.TheVariants.{Less}
-use Rattle.std.specs.FinMap.{empty, insert, len, entries, find, put, same_entries_map, get-entries, len-entries, entries-insert, entries_sorted}
-use Rattle.std.specs.FinMap.Entries.{below_all, by_order}
-use Rattle.std.proofs.lemmas.List.{append-nil, append_assoc, length-append, map-append}
-use Rattle.sv_model.specs.declared.key.Key.{Key}
-use Rattle.sv_model.specs.declared.state.KeyState.{KeyState}
-use Rattle.sv_model.specs.declared.node.Setting.{Setting}
-use Rattle.sv_model.specs.declared.node.Stage.{Stage}
-use Rattle.sv_model.specs.declared.node.Stage.TheVariants.{Blank, Snapshot}
-use Rattle.sv_model.specs.Keys.{key_cmp}
+use Rattle.sv_core.proofs.Prelude.{◌≡◌, ℕ, suc, ◌+◌, ◌<◌, ◌≤◌, false, cond, Option, Some, None, List, [], ◌∷◌, ◌++◌, map, length, get_or, take, arith, refl}
+use Rattle.sv_core.proofs.Prelude.{sym, ap, ◌∙◌, subst, inl, inr, T, not, ◌&&◌, is_none, is_eq, Less, empty, insert, len, entries, find, put, same_entries_map}
+use Rattle.sv_core.proofs.Prelude.{get-entries, len-entries, entries-insert, entries_sorted, below_all, by_order, append-nil, append_assoc, map-append, Key}
+use Rattle.sv_core.proofs.Prelude.{KeyState, Setting, Stage, Blank, Snapshot, key_cmp, Keys, Durable, is_unmade, bound, has_space, blank, applied, replayed}
+use Rattle.sv_core.proofs.Prelude.{stage_behind, Fits, AllFit, Entry, Place, Rises, state_at, seen, Record, keys_total, staged, state_record}
+use Rattle.std.proofs.lemmas.List.{length-append}
 use Rattle.sv_model.specs.Membership.{In}
-use Rattle.sv_model.specs.NodeState.{Keys, Durable, is_unmade, bound, has_space}
-use Rattle.sv_model.specs.Replay.{blank, applied, replayed}
-use Rattle.sv_model.specs.Fitting.{stage_behind, Fits, AllFit}
-use Rattle.sv_model.proofs.KeyLemmas.{keys_total}
 use Rattle.sv_model.proofs.EntryLemmas.{no_entries, entry_kept}
-use Rattle.sv_core.specs.Order.{Entry}
-use Rattle.sv_core.specs.Snapshot.{staged, state_record, head_by, snapshot_of}
+use Rattle.sv_core.specs.Snapshot.{head_by, snapshot_of}
 use Rattle.sv_core.proofs.SoundLemmas.{IsSound}
-use Rattle.sv_core.specs.Places.{Place, Rises, state_at, seen}
-use Rattle.sv_model.specs.declared.record.Record.{Record}
 use Rattle.sv_core.proofs.PlaceLemmas.{seen_more}
 use Rattle.sv_core.proofs.DirectoryLemmas.{seen_append}
 use Rattle.sv_core.proofs.OrderLemmas.{first, second, less, reversed}

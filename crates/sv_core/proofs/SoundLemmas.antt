@@ -1,27 +1,15 @@
 -- What records leave is sound.
-use Rattle.std.proofs.Common.{◌≡◌, ℕ, ◌+◌, ◌<◌, ◌≤◌, Bool, true, false, Option, Some, None, List, [], ◌∷◌, arith, refl, sym, ap, ◌∙◌, subst, ⊎_elim}
-use Rattle.std.specs.Prelude.{not, ◌==◌, ◌&&◌, ◌||◌, is_none, nat_le, nat_lt}
-use Rattle.std.specs.FinMap.{empty, get, insert, len, get-empty, len-empty}
+use Rattle.sv_core.proofs.Prelude.{◌≡◌, ℕ, ◌+◌, ◌<◌, ◌≤◌, Bool, true, false, Option, Some, None, List, [], ◌∷◌, arith, refl, sym, ap, ◌∙◌, subst, ⊎_elim, not}
+use Rattle.sv_core.proofs.Prelude.{◌==◌, ◌&&◌, ◌||◌, is_none, nat_le, nat_lt, empty, get, insert, len, get-empty, len-empty, same_Some, over_at, Key, Session}
+use Rattle.sv_core.proofs.Prelude.{KeyState, Active, Sent, Gone, Ended, Setting, Stage, Change, Record, key_cmp, blank, with_named, with_born, next_by, applied}
+use Rattle.sv_core.proofs.Prelude.{replayed, staged, leb_tells, Blank, Snapshot, Boot, Commit, Expired, Taken, State, Counters, Forgets, Counted, Keys, Durable}
+use Rattle.sv_core.proofs.Prelude.{last_number, epoch_in, is_unmade, bound, has_space, stage_behind, fits_named, is_next, fits_born, Fits, AllFit}
 use Rattle.std.proofs.lemmas.Bool.{eqb-true, leb-false}
-use Rattle.std.proofs.lemmas.Option.{same_Some}
-use Rattle.sv_model.specs.Serving.{over_at}
-use Rattle.std.proofs.lemmas.Bool.Decides.{leb_tells}
-use Rattle.sv_model.specs.declared.key.Key.{Key}
-use Rattle.sv_model.specs.declared.session.Session.{Session}
-use Rattle.sv_model.specs.declared.state.KeyState.{KeyState}
-use Rattle.sv_model.specs.declared.state.KeyState.TheVariants.{Active, Sent, Gone, Ended}
-use Rattle.sv_model.specs.declared.node.Setting.{Setting}
-use Rattle.sv_model.specs.declared.node.Stage.{Stage}
-use Rattle.sv_model.specs.declared.node.Stage.TheVariants.{Blank, Snapshot, Past}
-use Rattle.sv_model.specs.declared.record.Change.{Change}
+use Rattle.sv_model.specs.declared.node.Stage.TheVariants.{Past}
 use Rattle.sv_model.specs.declared.record.Change.TheVariants.{Absent as Unchanged, Alive as ChangeAlive, Ended as ChangeEnded}
-use Rattle.sv_model.specs.declared.record.Record.{Record}
-use Rattle.sv_model.specs.declared.record.Record.TheVariants.{Boot, Commit, Expired, Sent as SentRecord, Taken, Gone as GoneRecord, State, Counters, Forgets, Counted}
-use Rattle.sv_model.specs.Keys.{key_cmp}
-use Rattle.sv_model.specs.NodeState.{Keys, Durable, last_number, epoch_in, known_by, was_given, is_unmade, bound, has_space}
-use Rattle.sv_model.specs.Replay.{blank, with_named, with_born, next_by, applied, replayed}
-use Rattle.sv_model.specs.Fitting.{stage_behind, fits_named, is_next, fits_born, FitsSent, fits_gone, fits_state, Fits, AllFit}
-use Rattle.sv_core.specs.Snapshot.{staged}
+use Rattle.sv_model.specs.declared.record.Record.TheVariants.{Sent as SentRecord, Gone as GoneRecord}
+use Rattle.sv_model.specs.NodeState.{known_by, was_given}
+use Rattle.sv_model.specs.Fitting.{FitsSent, fits_gone, fits_state}
 use Rattle.sv_core.proofs.KeptLemmas.{left, right, is_lower, AreAll, all_with, all_kept, all_over, all_ended, as_many, one_more, kept_many, over_more, ended_few}
 
 -- no more keys than records may make known, none of its own that it has yet to hand out, and none at all before the first record

@@ -1,12 +1,8 @@
 -- The places of a table that no key has.
-use Rattle.std.proofs.Common.{◌≡◌, ◌≢◌, ℕ, ◌+◌, ◌<◌, ◌≤◌, true, Some, List, [], ◌∷◌, ◌++◌, length, set, arith, refl, sym, ap, ◌∙◌, subst, ⊎_elim}
-use Rattle.std.specs.Prelude.{T, ◌&&◌, ◌==◌, not, nat_lt}
-use Rattle.std.specs.FinMap.{find, put}
-use Rattle.std.proofs.lemmas.List.{length-set}
-use Rattle.sv_model.specs.declared.key.Key.{Key}
-use Rattle.sv_model.specs.declared.state.KeyState.{KeyState}
-use Rattle.sv_model.specs.Keys.{key_cmp}
-use Rattle.sv_core.specs.Places.{Place, AreWithin, AreApart, is_free, are_below, AreBelow, is_other, is_spare, are_spare, AreSpare, IsPutDown, state_at, erase}
+use Rattle.sv_core.proofs.Prelude.{◌≡◌, ◌≢◌, ℕ, ◌+◌, ◌<◌, ◌≤◌, true, Some, List, [], ◌∷◌, ◌++◌, length, set, arith, refl, sym, ap, ◌∙◌, subst, ⊎_elim, T, ◌&&◌}
+use Rattle.sv_core.proofs.Prelude.{◌==◌, not, nat_lt, find, put, length-set, Key, KeyState, key_cmp, Place, AreWithin, AreApart, is_free, AreBelow, AreSpare}
+use Rattle.sv_core.proofs.Prelude.{state_at, erase}
+use Rattle.sv_core.specs.Places.{are_below, is_other, is_spare, are_spare, IsPutDown}
 use Rattle.sv_core.proofs.OrderLemmas.{first, second, both}
 use Rattle.sv_core.proofs.PlaceLemmas.{AreSame, is_below, below_is, apart_is, is_apart, free_within, free_put, free_found, same_free, same_push, set_there, push_there}
 use Rattle.sv_core.proofs.EraseLemmas.{free_erased, freed}

@@ -1,43 +1,21 @@
 -- What a tick does.
-use Rattle.std.specs.Option.{unwrap_or}
-use Rattle.std.specs.Ordering.{is_eq}
-use Rattle.std.specs.declared.cmp.Ordering.{Ordering}
-use Rattle.std.specs.declared.cmp.Ordering.TheVariants.{Less, Equal, Greater}
+use Rattle.sv_core.proofs.Prelude.{unwrap_or, is_eq, Ordering, Less, Equal, Greater, insert, remove, entries, find, put, entries_sorted, get-entries}
+use Rattle.sv_core.proofs.Prelude.{entries-insert, cond_both, below_all, by_order, Key, Session, KeyState, Active, Sent, Gone, Ended, key_cmp, same_key}
+use Rattle.sv_core.proofs.Prelude.{Decision, over_at, ended_at, Entry, Place, Rises, state_at, seen, erase, is_handed_over, sent_among, durable_by, decision_of}
+use Rattle.sv_core.proofs.Prelude.{Setting, Parked, Output, Keys, Durable, Node, is_own, wants_of, keys_total, ticked, ◌≡◌, ℕ, ◌+◌, ◌<◌, Bool, true, false}
+use Rattle.sv_core.proofs.Prelude.{cond, Option, Some, None, List, [], ◌∷◌, ◌++◌, length, get_or, take, refl, sym, ap, ◌∙◌, subst, not, T, filter, filter_map}
+use Rattle.sv_core.proofs.Prelude.{append_assoc, filter-append, is_late, is_over, first_over, expire, deadlines, grant_again, on_tick, get}
 use Rattle.std.specs.Cmp.{eq_by_cmp_equiv}
-use Rattle.std.specs.FinMap.{insert, remove, entries, find, put, entries_sorted, get-entries, entries-insert}
-use Rattle.std.proofs.lemmas.Bool.{cond_both}
-use Rattle.std.specs.FinMap.Entries.{below_all, by_order}
-use Rattle.sv_model.specs.declared.key.Key.{Key}
-use Rattle.sv_model.specs.declared.session.Session.{Session}
-use Rattle.sv_model.specs.declared.state.KeyState.{KeyState}
-use Rattle.sv_model.specs.declared.state.KeyState.TheVariants.{Active, Sent, Gone, Ended}
-use Rattle.sv_model.specs.Keys.{key_cmp, same_key}
-use Rattle.sv_model.specs.Decision.{Decision}
-use Rattle.sv_model.specs.Serving.{over_at, ended_at}
-use Rattle.sv_model.proofs.KeyLemmas.{keys_total}
-use Rattle.sv_core.specs.Order.{Entry}
-use Rattle.sv_core.specs.Places.{Place, Rises, state_at, seen, erase, is_handed_over, sent_among}
-use Rattle.sv_core.specs.Table.{durable_by}
 use Rattle.sv_core.proofs.TableLemmas.{entries_without}
-use Rattle.sv_core.specs.Plain.{expiring, ticked}
-use Rattle.sv_core.specs.Decision.{decision_of}
+use Rattle.sv_core.specs.Plain.{expiring}
 use Rattle.sv_core.proofs.PlaceLemmas.{seen_more}
 use Rattle.sv_core.proofs.OrderLemmas.{first, second, less, reversed, find_low}
-use Rattle.std.proofs.Common.{◌≡◌, ℕ, ◌+◌, ◌<◌, Bool, true, false, cond, Option, Some, None, List, [], ◌∷◌, ◌++◌, length, get_or, take, refl, sym, ap, ◌∙◌, subst}
-use Rattle.std.specs.Prelude.{not, T}
-use Rattle.std.specs.List.{filter, filter_map, flat_map}
+use Rattle.std.specs.List.{flat_map}
 use Rattle.std.specs.Option.{option_to_list}
-use Rattle.std.proofs.lemmas.List.{append_assoc}
 use Rattle.std.proofs.lemmas.List.Concat.{flat_map-append}
-use Rattle.std.proofs.lemmas.List.Elements.{filter-append, filter_map-append}
-use Rattle.sv_model.specs.declared.node.Setting.{Setting}
-use Rattle.sv_model.specs.declared.node.Parked.{Parked}
-use Rattle.sv_model.specs.declared.output.Output.{Output}
-use Rattle.sv_model.specs.NodeState.{Keys, Durable, Node, is_own}
+use Rattle.std.proofs.lemmas.List.Elements.{filter_map-append}
 use Rattle.sv_model.specs.Waiting.{wants}
-use Rattle.sv_model.specs.Time.{is_late, is_quiet, is_over, first_over, expire, deadlines, wants_again, grant_again, on_tick}
-use Rattle.std.specs.FinMap.{get}
-use Rattle.sv_core.specs.Time.{wants_of}
+use Rattle.sv_model.specs.Time.{is_quiet, wants_again}
 
 -- one more request
 pub wants_of_more : (set : Setting) (d : Durable) (now : ℕ) (ps : List Parked) (p : Parked) → wants_of set d now (ps ++ p ∷ []) ≡ wants_of set d now ps ++ wants_of set d now (p ∷ [])

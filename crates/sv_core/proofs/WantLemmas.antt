@@ -1,23 +1,17 @@
 -- Wants in their order, and where one stands.
-use Rattle.std.proofs.Common.{◌≡◌, ◌≢◌, ℕ, zero, suc, ◌+◌, ◌<◌, ◌≤◌, Bool, true, false, cond, Option, Some, None, Result, Ok, Err, IfOk, IfErr, List, [], ◌∷◌, ◌++◌, length, get_or, take, drop, append_assoc, take-append-drop, arith, refl, sym, ap, ◌∙◌, subst, inl, inr, ⊎_elim, ◌⊎◌}
+use Rattle.sv_core.proofs.Prelude.{◌≡◌, ◌≢◌, ℕ, zero, suc, ◌+◌, ◌<◌, ◌≤◌, Bool, true, false, cond, Option, Some, None, Result, Ok, Err, IfOk, IfErr, List, []}
+use Rattle.sv_core.proofs.Prelude.{◌∷◌, ◌++◌, length, get_or, take, drop, arith, refl, sym, ap, ◌∙◌, subst, inl, inr, ⊎_elim, T, ◌&&◌, ◌||◌, ◌==◌, not, nat_le}
+use Rattle.sv_core.proofs.Prelude.{position, slice_get, list_any, AllWithin, filter, position_from, IsSearchInRange, IsBinarySearchResult, IsSortedBy, is_lt}
+use Rattle.sv_core.proofs.Prelude.{nat_cmp, Less, Equal, Greater, nat_tests, position_from-zero, searchable_from_sorted, Parked, Key, same_key, is_wanted, Rise}
+use Rattle.sv_core.proofs.Prelude.{IsLine, keys_in, wants_in, with_key, wants_where, around}
+use Rattle.std.proofs.Common.{append_assoc, take-append-drop, ◌⊎◌}
 use Rattle.std.proofs.lemmas.List.{length-map, map_push}
-use Rattle.std.specs.Prelude.{T, ◌&&◌, ◌||◌, ◌==◌, not, nat_le, position, remove, slice_get}
+use Rattle.std.specs.Prelude.{remove}
 use Rattle.std.specs.Result.{result_ok}
 use Rattle.std.specs.List as list
-use Rattle.std.specs.List.{list_any, AllWithin, filter, position_from}
-use Rattle.std.specs.List.Sorted.{IsSearchInRange, IsBinarySearchResult, IsSortedBy}
-use Rattle.std.specs.Ordering.{is_lt, nat_cmp}
-use Rattle.std.specs.declared.cmp.Ordering.TheVariants.{Less, Equal, Greater}
 use Rattle.std.proofs.lemmas.Bool.{cases_lt}
-use Rattle.std.proofs.lemmas.Bool.Decides.{nat_tests}
 use Rattle.std.proofs.lemmas.Cmp.{nat_cmp_total}
-use Rattle.std.proofs.lemmas.Iterator.Adapters.{position_from-zero}
-use Rattle.std.proofs.lemmas.List.Sorted.{searchable_from_sorted}
-use Rattle.sv_model.specs.declared.node.Parked.{Parked}
-use Rattle.sv_model.specs.declared.key.Key.{Key}
-use Rattle.sv_model.specs.Keys.{same_key}
-use Rattle.sv_model.specs.Migration.{is_wanted}
-use Rattle.sv_core.specs.Wants.{rise_from, Rise, IsLine, keys_in, wants_in, with_key, wants_where, Stands, Lacks, around, IsAround}
+use Rattle.sv_core.specs.Wants.{rise_from, Stands, Lacks, IsAround}
 use Rattle.sv_core.proofs.OrderLemmas.{first, second, both}
 use Rattle.sv_core.proofs.KeptLemmas.{left}
 

@@ -1,37 +1,21 @@
 -- The numbers after a decision are numbers still.
-use Rattle.std.proofs.Common.{◌≡◌, ℕ, ◌+◌, ◌≤◌, Bool, true, false, cond, Option, Some, None, List, [], arith, refl}
-use Rattle.std.specs.Prelude.{◌==◌, ◌||◌, nat_le, length}
-use Rattle.std.proofs.lemmas.Bool.{eqb-false, cond_both}
-use Rattle.std.specs.FinMap.{entries}
-use Rattle.sv_model.specs.declared.key.Key.{Key}
-use Rattle.sv_model.specs.declared.key.Secret.{Secret}
-use Rattle.sv_model.specs.declared.key.Moment.{Moment}
-use Rattle.sv_model.specs.declared.node.Setting.{Setting}
-use Rattle.sv_model.specs.declared.node.Parked.{Parked}
-use Rattle.sv_model.specs.declared.request.Request.{Request}
-use Rattle.sv_model.specs.declared.session.Session.{Session}
-use Rattle.sv_model.specs.declared.state.KeyState.{KeyState}
-use Rattle.sv_model.specs.declared.state.KeyState.TheVariants.{Active, Sent, Gone, Ended}
+use Rattle.sv_core.proofs.Prelude.{◌≡◌, ℕ, ◌+◌, ◌≤◌, Bool, true, false, cond, Option, Some, None, List, [], arith, refl, ◌==◌, ◌||◌, nat_le, eqb-false}
+use Rattle.sv_core.proofs.Prelude.{cond_both, entries, Key, Secret, Moment, Setting, Parked, Request, Session, KeyState, Active, Sent, Gone, Ended, Outcome}
+use Rattle.sv_core.proofs.Prelude.{Birth, Packet, EngineMeaning, first_over, expire, on_tick, decided, IsWithin, Entry, Absent, Alive, Want, Node, last_number}
+use Rattle.sv_core.proofs.Prelude.{is_settled, is_unmade, epoch_in, Decision, idle, next_with, served, first_of, without, serve_first, serve_parked, is_wanted}
+use Rattle.std.specs.Prelude.{length}
 use Rattle.sv_model.specs.declared.state.TheConstants.{PARK_LIMIT}
-use Rattle.sv_model.specs.declared.outcome.Outcome.{Outcome}
-use Rattle.sv_model.specs.declared.outcome.Birth.{Birth}
-use Rattle.sv_model.specs.declared.outcome.Birth.TheVariants.{Absent, Alive, Ended as BirthEnded}
-use Rattle.sv_model.specs.declared.packet.Packet.{Packet}
-use Rattle.sv_model.specs.declared.packet.Packet.TheVariants.{Want, Grant, Ack, No}
+use Rattle.sv_model.specs.declared.outcome.Birth.TheVariants.{Ended as BirthEnded}
+use Rattle.sv_model.specs.declared.packet.Packet.TheVariants.{Grant, Ack, No}
 use Rattle.sv_model.specs.declared.input.Input.{Input}
 use Rattle.sv_model.specs.declared.input.Input.TheVariants.{Ask, Packet as Incoming, Poke, Tick, Move}
 use Rattle.sv_model.specs.declared.output.Cause.{Cause}
 use Rattle.sv_model.specs.declared.output.Cause.TheVariants.{SerialsSpent, TableFull, ParkFull, WantsSpent}
-use Rattle.sv_model.specs.Engine.{EngineMeaning}
-use Rattle.sv_model.specs.NodeState.{Node, last_number, known, is_settled, is_dead, is_unmade, epoch_in, lacks_room, is_crowded}
-use Rattle.sv_model.specs.Decision.{Decision, idle, with_record}
-use Rattle.sv_model.specs.Serving.{no_birth, next_with, answer_of, answered_unless, refused, served}
-use Rattle.sv_model.specs.Waiting.{on_ask, waits, parks, first_of, without, serve_first, serve_parked}
-use Rattle.sv_model.specs.Migration.{no_if_unmade, says_no, on_want, hands_over, takes_over, on_grant, on_ack, is_wanted, is_ours, on_ours, move_refused, on_move}
-use Rattle.sv_model.specs.Time.{first_over, expire, on_tick}
-use Rattle.sv_model.specs.Node.{decided}
-use Rattle.sv_core.specs.Core.{IsWithin}
-use Rattle.sv_core.specs.Order.{Entry}
+use Rattle.sv_model.specs.NodeState.{known, is_dead, lacks_room, is_crowded}
+use Rattle.sv_model.specs.Decision.{with_record}
+use Rattle.sv_model.specs.Serving.{no_birth, answer_of, answered_unless, refused}
+use Rattle.sv_model.specs.Waiting.{on_ask, waits, parks}
+use Rattle.sv_model.specs.Migration.{no_if_unmade, says_no, on_want, hands_over, takes_over, on_grant, on_ack, is_ours, on_ours, move_refused, on_move}
 
 module _ (set : Setting) (n : Node) (want : n.next_want ≤ last_number) (next : n.durable.next ≤ last_number) where
   either : (b : Bool) (x y : Decision) → (b ≡ true → IsWithin x) → (b ≡ false → IsWithin y) → IsWithin (cond b x y)

@@ -14,7 +14,7 @@ use crate::ahead::make_ready;
 use crate::batch::Batch;
 use crate::commit::commit;
 use crate::entries::ENTRY_HEAD;
-use crate::opening::{Place, find_or_make};
+use crate::opening::{Position, find_or_make};
 use crate::reading::read_entries;
 use crate::replacing::replace;
 use crate::snapshot::{behind_gate, snapshot_len};
@@ -306,7 +306,7 @@ impl<D: Disk> Journal<D> {
 }
 
 // The journal at this place of the disks A and B.
-fn seated<D: Disk>(alloc: Global, a: D, b: D, place: Place) -> Journal<D>
+fn seated<D: Disk>(alloc: Global, a: D, b: D, place: Position) -> Journal<D>
     requires { IsSound D.tells D.seen D.may_leave (journal_at a b place) }
     ensures { result ≡ journal_at a b place }
 {

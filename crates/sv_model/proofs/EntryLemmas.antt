@@ -9,13 +9,9 @@ use Rattle.std.specs.Ordering.{is_lt, is_eq, ordering_reverse}
 use Rattle.std.specs.declared.cmp.Ordering.{Ordering}
 use Rattle.std.specs.declared.cmp.Ordering.TheVariants.{Less, Equal, Greater}
 use Rattle.std.proofs.lemmas.Bool.{cond_both}
-use Rattle.sv_model.specs.declared.key.Key.{Key}
-use Rattle.sv_model.specs.declared.state.KeyState.{KeyState}
-use Rattle.sv_model.specs.Keys.{key_cmp}
-use Rattle.sv_model.specs.NodeState.{Keys}
+use Rattle.sv_model.proofs.Prelude.{Key, KeyState, key_cmp, Keys, In}
 use Rattle.sv_model.specs.Time.{is_over, first_over}
 use Rattle.sv_model.proofs.KeyLemmas.{keys_total}
-use Rattle.sv_model.specs.Membership.{In}
 
 abbrev pub Entry : Type 0
 Entry = Key × KeyState

@@ -5,38 +5,18 @@ use Rattle.std.specs.Option.{option_map}
 use Rattle.std.proofs.lemmas.Bool.{eq-eqb, leb-false, cond_both}
 use Rattle.std.proofs.lemmas.Bool.Decides.{leb_tells}
 use Rattle.std.specs.FinMap.{get, entries}
-use Rattle.sv_model.specs.declared.key.Key.{Key}
-use Rattle.sv_model.specs.declared.key.Secret.{Secret}
-use Rattle.sv_model.specs.declared.key.Moment.{Moment}
-use Rattle.sv_model.specs.declared.node.Setting.{Setting}
-use Rattle.sv_model.specs.declared.node.Parked.{Parked}
+use Rattle.sv_model.proofs.Prelude.{Key, Secret, Moment, Setting, Parked, Request, Session, KeyState, Active, Sent, Gone, Ended, PARK_LIMIT, Fate, Birth}
+use Rattle.sv_model.proofs.Prelude.{Change, Packet, Want, Grant, Ack, No, Input, Cause, Output, TableFull, SerialsSpent, Keys, Durable, Node, last_number}
+use Rattle.sv_model.proofs.Prelude.{session_in, is_settled, is_dead, is_unmade, epoch_in, was_given, known, is_full, has_space, lacks_room, is_crowded}
+use Rattle.sv_model.proofs.Prelude.{Decision, idle, on_ask, waits, first_of, without, serve_first, serve_parked, first_over, expire, decided}
 use Rattle.sv_model.specs.declared.node.Stage.{Stage}
-use Rattle.sv_model.specs.declared.request.Request.{Request}
-use Rattle.sv_model.specs.declared.session.Session.{Session}
-use Rattle.sv_model.specs.declared.state.KeyState.{KeyState}
-use Rattle.sv_model.specs.declared.state.KeyState.TheVariants.{Active, Sent, Gone, Ended}
-use Rattle.sv_model.specs.declared.state.TheConstants.{PARK_LIMIT}
-use Rattle.sv_model.specs.declared.outcome.Fate.{Fate}
 use Rattle.sv_model.specs.declared.outcome.Fate.TheVariants.{Untouched, Kept, Ended as FateEnded}
-use Rattle.sv_model.specs.declared.outcome.Birth.{Birth}
 use Rattle.sv_model.specs.declared.outcome.Birth.TheVariants.{Absent, Alive, Ended as BirthEnded}
-use Rattle.sv_model.specs.declared.record.Change.{Change}
 use Rattle.sv_model.specs.declared.record.Change.TheVariants.{Absent as Unchanged, Alive as ChangeAlive, Ended as ChangeEnded}
-use Rattle.sv_model.specs.declared.packet.Packet.{Packet}
-use Rattle.sv_model.specs.declared.packet.Packet.TheVariants.{Want, Grant, Ack, No}
-use Rattle.sv_model.specs.declared.input.Input.{Input}
 use Rattle.sv_model.specs.declared.input.Input.TheVariants.{Ask, Packet as Incoming, Poke, Tick, Move}
-use Rattle.sv_model.specs.declared.output.Cause.{Cause}
-use Rattle.sv_model.specs.declared.output.Output.{Output}
-use Rattle.sv_model.specs.declared.output.Cause.TheVariants.{TableFull, SerialsSpent}
 use Rattle.sv_model.specs.Engine.{EngineMeaning, TouchesOnlyHanded}
-use Rattle.sv_model.specs.NodeState.{Keys, Durable, Node, last_number, session_in, is_settled, is_dead, is_unmade, epoch_in, was_given, known, is_full, has_space, lacks_room, is_crowded}
-use Rattle.sv_model.specs.Decision.{Decision, idle}
 use Rattle.sv_model.specs.Serving.{fresh_of, held_in, no_birth, ended_at, fated_keys, born_keys, next_with, named_change, born_change, entry_of, answer_of, answered_unless, refused, served}
-use Rattle.sv_model.specs.Waiting.{on_ask, waits, first_of, without, serve_first, serve_parked}
 use Rattle.sv_model.specs.Migration.{no_if_unmade, says_no, on_want, hands_over, takes_over, on_grant, on_ack, is_wanted, is_ours, on_ours, move_refused, on_move}
-use Rattle.sv_model.specs.Time.{first_over, expire}
-use Rattle.sv_model.specs.Node.{decided}
 use Rattle.sv_model.specs.Replay.{applied_if}
 use Rattle.sv_model.specs.Fitting.{is_active, fits_named, is_next, fits_born, FitsSent, fits_taken, fits_gone, Fits}
 use Rattle.sv_model.specs.Opening.{mark_of}

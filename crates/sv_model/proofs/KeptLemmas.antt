@@ -4,19 +4,11 @@ use Rattle.std.specs.Prelude.{is_some}
 use Rattle.std.specs.Option.{option_map}
 use Rattle.std.proofs.lemmas.Bool.{cond_both}
 use Rattle.std.specs.FinMap.{get, insert, remove, get-insert, get-remove}
-use Rattle.sv_model.specs.declared.key.Key.{Key}
-use Rattle.sv_model.specs.declared.key.Secret.{Secret}
-use Rattle.sv_model.specs.declared.session.Session.{Session}
-use Rattle.sv_model.specs.declared.state.KeyState.{KeyState}
-use Rattle.sv_model.specs.declared.state.KeyState.TheVariants.{Active, Sent, Gone, Ended}
-use Rattle.sv_model.specs.declared.outcome.Fate.{Fate}
+use Rattle.sv_model.proofs.Prelude.{Key, Secret, Session, KeyState, Active, Sent, Gone, Ended, Fate, Birth, same_key, set_key, Keys, session_in, is_own}
+use Rattle.sv_model.proofs.Prelude.{held_in, kept_at, over_at, ended_at, fated_keys, born_keys}
 use Rattle.sv_model.specs.declared.outcome.Fate.TheVariants.{Untouched, Kept, Ended as FateEnded}
-use Rattle.sv_model.specs.declared.outcome.Birth.{Birth}
 use Rattle.sv_model.specs.declared.outcome.Birth.TheVariants.{Absent, Alive, Ended as BirthEnded}
-use Rattle.sv_model.specs.Keys.{same_key, set_key}
 use Rattle.sv_model.specs.Container.{held_by, handed_if, fated, born}
-use Rattle.sv_model.specs.NodeState.{Keys, session_in, is_own}
-use Rattle.sv_model.specs.Serving.{held_in, kept_at, over_at, ended_at, fated_keys, born_keys}
 use Rattle.sv_model.proofs.KeyLemmas.{keys_total, keys_tell}
 
 -- the container has the sessions that are active here

@@ -6,8 +6,7 @@ use Rattle.std.specs.declared.cmp.Ordering.TheVariants.{Less, Equal, Greater}
 use Rattle.std.specs.Cmp.{IsTotalOrder, nat_cmp_total}
 use Rattle.std.proofs.lemmas.Cmp.{on_total, then_total, eq_by_cmp_equiv}
 use Rattle.std.proofs.lemmas.Map.Lookups.{CmpEqualImpliesEq, exact_pairs, exact_unsigned}
-use Rattle.sv_model.specs.declared.key.Key.{Key}
-use Rattle.sv_model.specs.Keys.{key_cmp, same_key}
+use Rattle.sv_model.proofs.Prelude.{Key, key_cmp, same_key}
 
 pub keys_total : IsTotalOrder key_cmp
 keys_total = then_total (on_total (λ (k : Key). k.home) nat_cmp_total) (on_total (λ (k : Key). k.serial) nat_cmp_total)

@@ -4,13 +4,8 @@ use Rattle.std.specs.Prelude.{nat_lt, nat_le}
 use Rattle.std.specs.FinMap.{get, insert, remove, len, get-insert, get-remove}
 use Rattle.std.proofs.lemmas.Bool.{cases_eq, ne_eqb, leb-true, leb-false, lt-ltb, cond_both}
 use Rattle.std.proofs.lemmas.Bool.Decides.{leb_tells}
-use Rattle.sv_model.specs.declared.key.Key.{Key}
-use Rattle.sv_model.specs.declared.node.Setting.{Setting}
-use Rattle.sv_model.specs.declared.session.Session.{Session}
-use Rattle.sv_model.specs.declared.state.KeyState.{KeyState}
-use Rattle.sv_model.specs.declared.state.KeyState.TheVariants.{Active, Sent, Ended}
+use Rattle.sv_model.proofs.Prelude.{Key, Setting, Session, KeyState, Active, Sent, Ended, same_key, set_key}
 use Rattle.sv_model.specs.declared.state.TheConstants.{KEY_LIMIT, KEY_MOST}
-use Rattle.sv_model.specs.Keys.{same_key, set_key}
 use Rattle.sv_model.specs.NodeState.{Durable, last_number, is_own, was_given, known_by, known, limit, bound, is_full, has_space}
 use Rattle.sv_model.proofs.KeyLemmas.{keys_total, keys_tell}
 

@@ -7,44 +7,24 @@ use Rattle.std.specs.FinMap.{get, insert, remove, entries, get-insert, get-remov
 use Rattle.std.proofs.lemmas.Bool.{eqb-false, leb-false, cond_both}
 use Rattle.std.proofs.lemmas.Option.{same_Some}
 use Rattle.std.proofs.lemmas.List.Elements.{filter_map-append}
-use Rattle.sv_model.specs.declared.key.Key.{Key}
-use Rattle.sv_model.specs.declared.key.Secret.{Secret}
-use Rattle.sv_model.specs.declared.key.Moment.{Moment}
-use Rattle.sv_model.specs.declared.node.Setting.{Setting}
-use Rattle.sv_model.specs.declared.node.Parked.{Parked}
-use Rattle.sv_model.specs.declared.request.Request.{Request}
-use Rattle.sv_model.specs.declared.session.Session.{Session}
-use Rattle.sv_model.specs.declared.state.KeyState.{KeyState}
-use Rattle.sv_model.specs.declared.state.KeyState.TheVariants.{Active, Sent, Gone, Ended}
-use Rattle.sv_model.specs.declared.state.TheConstants.{PARK_LIMIT}
-use Rattle.sv_model.specs.declared.outcome.Fate.{Fate}
+use Rattle.sv_model.proofs.Prelude.{Key, Secret, Moment, Setting, Parked, Request, Session, KeyState, Active, Sent, Gone, Ended, PARK_LIMIT, Fate, Birth}
+use Rattle.sv_model.proofs.Prelude.{Change, Packet, Want, Grant, Ack, No, Input, Cause, Output, Told, EngineMeaning, Keys, Durable, Node, last_number}
+use Rattle.sv_model.proofs.Prelude.{session_in, is_settled, is_dead, is_unmade, epoch_in, is_own, was_given, known, lacks_room, is_crowded, In, no_if_unmade}
+use Rattle.sv_model.proofs.Prelude.{says_no, on_want, hands_over, takes_over, on_grant, on_ack, is_wanted, is_ours, on_ours, on_move, decided}
 use Rattle.sv_model.specs.declared.outcome.Fate.TheVariants.{Untouched, Kept, Ended as FateEnded}
-use Rattle.sv_model.specs.declared.outcome.Birth.{Birth}
 use Rattle.sv_model.specs.declared.outcome.Birth.TheVariants.{Absent, Alive, Ended as BirthEnded}
-use Rattle.sv_model.specs.declared.record.Change.{Change}
 use Rattle.sv_model.specs.declared.record.Change.TheVariants.{Absent as Unchanged, Alive as ChangeAlive, Ended as ChangeEnded}
 use Rattle.sv_model.specs.declared.record.Record.{Record}
-use Rattle.sv_model.specs.declared.packet.Packet.{Packet}
-use Rattle.sv_model.specs.declared.packet.Packet.TheVariants.{Want, Grant, Ack, No}
-use Rattle.sv_model.specs.declared.input.Input.{Input}
 use Rattle.sv_model.specs.declared.input.Input.TheVariants.{Ask, Packet as Incoming, Poke, Tick, Move}
-use Rattle.sv_model.specs.declared.output.Cause.{Cause}
 use Rattle.sv_model.specs.declared.output.Cause.TheVariants.{SerialsSpent, TableFull, ParkFull, WantsSpent, Deadline}
-use Rattle.sv_model.specs.declared.output.Output.{Output}
 use Rattle.sv_model.specs.declared.output.Output.TheVariants.{Refuse, Send, Moved}
-use Rattle.sv_model.specs.declared.event.Told.{Told}
 use Rattle.sv_model.specs.Keys.{same_key, IsNode, IsCounting, IsKey}
 use Rattle.sv_model.specs.Limits.{IsWithinLimits, KeepsWithin, BringsWithin, KeepsLimits, NamesKeys}
-use Rattle.sv_model.specs.Engine.{EngineMeaning}
-use Rattle.sv_model.specs.NodeState.{Keys, Durable, Node, last_number, session_in, is_settled, is_dead, is_unmade, epoch_in, is_own, was_given, known, lacks_room, is_crowded}
 use Rattle.sv_model.specs.Outputs.{packet_in, sends_in}
-use Rattle.sv_model.specs.Membership.{In}
 use Rattle.sv_model.specs.Decision.{Decision, idle, with_record}
 use Rattle.sv_model.specs.Serving.{fresh_of, held_in, no_birth, kept_at, over_at, ended_at, fated_keys, born_keys, next_with, named_change, born_change, entry_of, answer_of, answered_unless, served}
 use Rattle.sv_model.specs.Waiting.{numbers, others, wants, on_ask, waits, parks, first_of, without, serve_first, serve_parked}
-use Rattle.sv_model.specs.Migration.{no_if_unmade, says_no, on_want, hands_over, takes_over, on_grant, on_ack, is_wanted, is_ours, on_ours, on_move}
 use Rattle.sv_model.specs.Time.{first_over, expire, is_late, is_quiet, deadlines, wants_again, grant_again, on_tick}
-use Rattle.sv_model.specs.Node.{decided}
 use Rattle.sv_model.specs.Ranges.{IsSetting, IsChange, IsState, IsRecord, IsPacket, IsInput, IsRanged, IsRangedStep}
 use Rattle.sv_model.proofs.KeyLemmas.{keys_total, keys_tell}
 use Rattle.sv_model.proofs.EntryLemmas.{Entry, entry_kept, over_in}

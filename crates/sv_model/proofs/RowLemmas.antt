@@ -1,29 +1,11 @@
 -- The worked examples of the table, computed.
 use Rattle.std.proofs.Common.{◌≡◌, ℕ, Bool, true, false, cond, Option, Some, None, List, [], ◌∷◌, refl, arith, sym, ap, ◌∙◌}
 use Rattle.std.specs.FinMap.{empty, insert, remove, entries-insert, len-empty, get-empty, get-insert, get-remove, same_map}
-use Rattle.sv_model.specs.declared.key.Secret.{Secret}
-use Rattle.sv_model.specs.declared.key.Moment.{Moment}
-use Rattle.sv_model.specs.declared.node.Setting.{Setting}
-use Rattle.sv_model.specs.declared.node.Parked.{Parked}
-use Rattle.sv_model.specs.declared.request.Request.{Request}
+use Rattle.sv_model.proofs.Prelude.{Secret, Moment, Setting, Parked, Request, Session, Told, Untouched, Kept, Absent, Alive, KeyState, Active, Sent, Gone}
+use Rattle.sv_model.proofs.Prelude.{Ended, Ask, Poke, Cause, TableFull, Key, key_cmp, same_key, EngineMeaning, Keys, Node, on_ask, decided}
 use Rattle.sv_model.specs.declared.response.Response.{Response}
-use Rattle.sv_model.specs.declared.session.Session.{Session}
-use Rattle.sv_model.specs.declared.event.Told.{Told}
 use Rattle.sv_model.specs.declared.outcome.Outcome.{Outcome}
-use Rattle.sv_model.specs.declared.outcome.Fate.TheVariants.{Untouched, Kept}
-use Rattle.sv_model.specs.declared.outcome.Birth.TheVariants.{Absent, Alive}
-use Rattle.sv_model.specs.declared.state.KeyState.{KeyState}
-use Rattle.sv_model.specs.declared.state.KeyState.TheVariants.{Active, Sent, Gone, Ended}
-use Rattle.sv_model.specs.declared.input.Input.TheVariants.{Ask, Poke}
-use Rattle.sv_model.specs.declared.output.Cause.{Cause}
-use Rattle.sv_model.specs.declared.output.Cause.TheVariants.{TableFull}
-use Rattle.sv_model.specs.declared.key.Key.{Key}
-use Rattle.sv_model.specs.Keys.{key_cmp, same_key}
-use Rattle.sv_model.specs.Engine.{EngineMeaning}
-use Rattle.sv_model.specs.NodeState.{Keys, Node}
 use Rattle.sv_model.specs.Serving.{held_in, served, refused, no_birth, answer_of, answered, answered_unless}
-use Rattle.sv_model.specs.Waiting.{on_ask}
-use Rattle.sv_model.specs.Node.{decided}
 use Rattle.sv_model.specs.Rows.{of_three, first_key, second_key, keeps, forgets, at_rest, at_second, waits_at_1, waiting, IsExample, IsHandedOver, AreLate, IsNeverMade, AreTicks, AreOrders, AreForgotten, AreFull, AreForgetting}
 use Rattle.sv_model.proofs.KeyLemmas.{keys_total, exact_keys}
 use Rattle.sv_model.proofs.EntryLemmas.{no_entries}

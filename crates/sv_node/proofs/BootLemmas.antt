@@ -1,18 +1,12 @@
 -- The number of a start that records give is one of 64 bits, so a start stands only after one that isn't the last.
 use Rattle.std.proofs.lemmas.Bool.{cond_both}
 use Rattle.std.proofs.Common.{◌≡◌, inl, inr, ℕ, ◌+◌, ◌≤◌, List, [], ◌∷◌, arith, refl, subst}
-use Rattle.sv_model.specs.declared.node.Setting.{Setting}
-use Rattle.sv_model.specs.declared.record.Record.{Record}
+use Rattle.sv_node.proofs.Prelude.{Setting, Record, Durable, last_number, quiet, kept, StopsStart, GivesStart, restarted, Spell, Replays, Restores}
 use Rattle.sv_model.specs.declared.record.Record.TheVariants.{Boot, Commit, Expired, Sent, Taken, Gone, State, Counters, Forgets, Counted}
-use Rattle.sv_model.specs.NodeState.{Durable, last_number}
 use Rattle.sv_model.specs.Replay.{blank, applied, boot_behind, replayed}
 use Rattle.sv_record.specs.declared.version.Version.{Version}
 use Rattle.sv_record.specs.Field.{long, counting}
 use Rattle.sv_record.specs.Record.{record_format, HasSpellingBy}
-use Rattle.sv_node.specs.Call.{quiet, kept, StopsStart}
-use Rattle.sv_node.specs.Opened.{GivesStart, restarted}
-use Rattle.sv_node.specs.Records.{Spell, Replays}
-use Rattle.sv_node.specs.Stops.{Restores}
 
 boot_fits : (v : Version) (r : Record) (boot : ℕ) → boot ≤ last_number → HasSpellingBy v r → boot_behind r boot ≤ last_number
 unfolding record_format counting long

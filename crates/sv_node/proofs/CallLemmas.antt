@@ -1,23 +1,12 @@
 -- The calls of a node in code, as calls that are seen from outside.
 use Rattle.std.proofs.Common.{◌≡◌, ◌≢◌, ℕ, Bool, true, false, Result, Ok, Err, List, refl, sym, ap, ◌∙◌}
-use Rattle.sv_journal.specs.Journal.{JournalView}
-use Rattle.sv_journal.specs.declared.journal_fault.JournalFault.{JournalFault}
+use Rattle.sv_node.proofs.Prelude.{JournalView, JournalFault, Input, Moment, Setting, Output, StepFault, Decision, EngineMeaning, Durable, Node as State}
+use Rattle.sv_node.proofs.Prelude.{last_number, View, CompactionEnds, IsCompaction, view_of, engine_of, setting_of, state_of, durable_of, journal_of}
+use Rattle.sv_node.proofs.Prelude.{decided_at, Ends, IsNodeStep, IsStarted, restarted}
 use Rattle.sv_journal.specs.declared.journal_fault.JournalFault.TheVariants as journal
-use Rattle.sv_model.specs.declared.input.Input.{Input}
-use Rattle.sv_model.specs.declared.key.Moment.{Moment}
-use Rattle.sv_model.specs.declared.node.Setting.{Setting}
-use Rattle.sv_model.specs.declared.output.Output.{Output}
-use Rattle.sv_model.specs.declared.site.StepFault.{StepFault}
 use Rattle.sv_model.specs.declared.site.StepFault.TheVariants as step
-use Rattle.sv_model.specs.Decision.{Decision}
-use Rattle.sv_model.specs.Engine.{EngineMeaning}
-use Rattle.sv_model.specs.NodeState.{Durable, Node as State, last_number}
-use Rattle.sv_model.specs.Step.{View}
 use Rattle.sv_node.specs.Call.{Compact, ending_of, After, quiet, kept, Does, runs_behind}
 use Rattle.sv_node.specs.Calls.{IsAfterCompaction, IsStepCall, IsCompactionCall, IsOpenCall}
-use Rattle.sv_node.specs.Compaction.{CompactionEnds, IsCompaction}
-use Rattle.sv_node.specs.Node.{view_of, engine_of, setting_of, state_of, durable_of, journal_of, decided_at, Ends, IsNodeStep, IsStarted}
-use Rattle.sv_node.specs.Opened.{restarted}
 use Rattle.sv_node.specs.declared.node.Node.{Node}
 
 -- it runs, as it would have answered Failed

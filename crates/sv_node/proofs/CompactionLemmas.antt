@@ -6,29 +6,18 @@ use Rattle.std.specs.List.{All, AllByRecursion}
 use Rattle.sv_core.specs.Snapshot.{staged, state_record, head_by, snapshot_of}
 use Rattle.sv_core.proofs.SoundLemmas.{sound_blank, sound_replayed}
 use Rattle.sv_core.proofs.SnapshotLemmas.{snapshot_fits, snapshot_gives}
-use Rattle.sv_journal.specs.Disk.{Only, LeavesOnly, TellsOn, HasRisen}
-use Rattle.sv_journal.specs.Format.{OpensOn, OpensReplaced}
-use Rattle.sv_journal.specs.Journal.{JournalView, disk_a, disk_b}
-use Rattle.sv_journal.specs.declared.journal_fault.JournalFault.{JournalFault}
+use Rattle.sv_node.proofs.Prelude.{Only, LeavesOnly, TellsOn, HasRisen, OpensOn, OpensReplaced, JournalView, disk_a, disk_b, JournalFault, Setting, Blank}
+use Rattle.sv_node.proofs.Prelude.{Record, EngineMeaning, Durable, Node as State, blank, replayed, spelling, view_of, setting_of, durable_of, journal_of}
+use Rattle.sv_node.proofs.Prelude.{IsNode, Give, Replays, TellsBoth, Stores, Restores}
 use Rattle.sv_journal.specs.declared.journal_fault.JournalFault.TheVariants as journal
 use Rattle.sv_model.specs.declared.key.Key.{Key}
 use Rattle.sv_model.specs.declared.state.KeyState.{KeyState}
-use Rattle.sv_model.specs.declared.node.Setting.{Setting}
-use Rattle.sv_model.specs.declared.node.Stage.TheVariants.{Blank}
-use Rattle.sv_model.specs.declared.record.Record.{Record}
-use Rattle.sv_model.specs.Engine.{EngineMeaning}
 use Rattle.sv_model.specs.Membership.{In}
-use Rattle.sv_model.specs.NodeState.{Durable, Node as State}
 use Rattle.sv_model.specs.Ranges.{IsRecord, IsState, IsRanged}
 use Rattle.sv_model.specs.Keys.{IsKey, IsNode as IsNumber, IsCounting}
 use Rattle.std.specs.Prelude.{IfSome}
-use Rattle.sv_model.specs.Replay.{blank, replayed}
 use Rattle.sv_model.proofs.EntryLemmas.{entry_kept}
-use Rattle.sv_record.specs.Record.{spelling}
 use Rattle.sv_node.specs.Compaction.{HasTurned, written, spared, len_with, HasNoRoom, RestoresBeside, LeavesSame, LeavesReplaced, CompactionEnds, IsCompaction}
-use Rattle.sv_node.specs.Node.{view_of, setting_of, durable_of, journal_of, IsNode}
-use Rattle.sv_node.specs.Records.{Give, Replays}
-use Rattle.sv_node.specs.Stops.{TellsBoth, Stores, Restores}
 use Rattle.sv_node.specs.declared.node.Node.{Node}
 use Rattle.sv_node.proofs.StopLemmas.{weaker, opens_on}
 

@@ -1,18 +1,9 @@
 -- A stop inside a call, a failed disk and a refused opening leave a state that such a call leaves.
 use Rattle.std.proofs.Common.{◌≡◌, ◌⊎◌, ⊎_elim, ℕ, true, false, List, inl, inr, refl, sym, ap, ◌∙◌, subst}
-use Rattle.sv_journal.specs.Disk.{Only, LeavesOnly}
-use Rattle.sv_model.specs.declared.input.Input.{Input}
-use Rattle.sv_model.specs.declared.key.Moment.{Moment}
-use Rattle.sv_model.specs.declared.node.Setting.{Setting}
+use Rattle.sv_node.proofs.Prelude.{Only, LeavesOnly, Input, Moment, Setting, EngineMeaning, decided, Durable, Node, last_number, Open, Step, Refused, Cut, Does}
+use Rattle.sv_node.proofs.Prelude.{StopsStart, quiet, kept, GivesStart, StartsWithoutLoss, Restores, RestoresEither, OpenFault}
 use Rattle.sv_model.specs.declared.site.StepFault.TheVariants as step
-use Rattle.sv_model.specs.Engine.{EngineMeaning}
-use Rattle.sv_model.specs.Node.{decided}
-use Rattle.sv_model.specs.NodeState.{Durable, Node, last_number}
-use Rattle.sv_node.specs.Call.{Open, Step, Refused, Cut, Does, StopsStart, quiet, kept}
 use Rattle.sv_node.specs.Cuts.{GivesCall, GivesCallOn, LeaveThis, LeaveEither, LeftTogether, IsRefusedOpening}
-use Rattle.sv_node.specs.Opened.{GivesStart, StartsWithoutLoss}
-use Rattle.sv_node.specs.Stops.{Restores, RestoresEither}
-use Rattle.sv_node.specs.declared.fault.OpenFault.{OpenFault}
 use Rattle.sv_node.specs.declared.fault.OpenFault.TheVariants.{Device, Damaged, Full, Memory}
 use Rattle.sv_node.proofs.BootLemmas.{found}
 

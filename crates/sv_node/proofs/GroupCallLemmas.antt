@@ -1,30 +1,20 @@
 -- A group of steps is calls that are seen from outside.
 use Rattle.std.proofs.Common.{◌≡◌, ◌⊎◌, ℕ, ◌≤◌, true, map, IsTrue, List, [], ◌∷◌, ◌++◌, Result, Ok, Err, refl, sym, ap, ◌∙◌, subst, inl, inr, arith}
-use Rattle.sv_model.specs.declared.input.Input.{Input}
-use Rattle.sv_model.specs.declared.key.Moment.{Moment}
+use Rattle.sv_node.proofs.Prelude.{Input, Moment, Setting, Output, StepFault, EngineMeaning, heard_all, decided, Durable, Node as State, left, told, Answer}
+use Rattle.sv_node.proofs.Prelude.{Answered, behind, events_of, GroupEnds, IsGroup, engine_of, setting_of, state_of, durable_of, journal_of, TellsBoth}
+use Rattle.sv_node.proofs.Prelude.{Restores, RestoresEither}
 use Rattle.sv_model.specs.declared.input.Input.TheVariants as input
-use Rattle.sv_model.specs.declared.node.Setting.{Setting}
-use Rattle.sv_model.specs.declared.output.Output.{Output}
-use Rattle.sv_model.specs.declared.site.StepFault.{StepFault}
 use Rattle.sv_model.specs.declared.site.StepFault.TheVariants.{Failed, Full, Device, Memory}
-use Rattle.sv_model.specs.Engine.{EngineMeaning, heard_all}
-use Rattle.sv_model.specs.Node.{decided}
-use Rattle.sv_model.specs.NodeState.{Durable, Node as State}
-use Rattle.sv_model.specs.Decision.{left}
-use Rattle.sv_model.specs.Step.{told}
 use Rattle.sv_node.specs.Call.{Unsaid, Stop, Given, quiet, kept, node_behind}
-use Rattle.sv_node.specs.Group.{Answer, Answered, behind, events_of, GroupEnds, IsGroup}
 use Rattle.sv_node.specs.GroupCalls.{all_given, put_out_by, done_in, turns_of, IsTurns, GivesGroup, GivesGroupOn}
 use Rattle.sv_node.specs.History.{Turn, Stand, halted, AreTurns, behind_all, told_in, stand_of, IsAbove, number_in, RiseIn, numbers_in, Rise, Leads, GoesOn, Fails, HasGone}
-use Rattle.sv_node.specs.Node.{engine_of, setting_of, state_of, durable_of, journal_of}
-use Rattle.sv_node.specs.Stops.{TellsBoth, Restores, RestoresEither}
 use Rattle.sv_node.specs.declared.node.Node.{Node}
 use Rattle.sv_node.proofs.CallLemmas.{same_state, same_live, same_meaning, same_heard}
 use Rattle.sv_node.proofs.HistoryLemmas.{lower_all, lower_numbers, leads_nowhere, leads_by}
 
 -- ---- numbers of requests
 
-no_lower : (low : ℕ) (i : Input) → IsAbove low i → low ≤ number_in low i
+pub no_lower : (low : ℕ) (i : Input) → IsAbove low i → low ≤ number_in low i
 no_lower low (input.Ask number r) above = omega (arith, above)
 no_lower low (input.Packet p) above = omega arith
 no_lower low input.Poke above = omega arith

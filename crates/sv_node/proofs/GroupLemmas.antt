@@ -1,5 +1,6 @@
 -- Steps of a group, one after the other.
 use Rattle.std.proofs.Common.{◌≡◌, ◌⊎◌, inl, inr, ℕ, ◌+◌, ◌<◌, ◌≤◌, max, IsErrOf, length-append, false, map, length, List, [], ◌∷◌, ◌++◌, Option, Some, None, Result, Ok, Err, IsTrue, IfSome, Vec, Global, vec_items, refl, sym, ◌∙◌, ap, subst, arith}
+use Rattle.sv_node.proofs.HistoryLemmas.{heard_join}
 use Rattle.std.proofs.lemmas.Grind.{flat_map-append}
 use Rattle.std.proofs.lemmas.List.{append_assoc, append-nil, map-append}
 use Rattle.std.specs.List.{flat_map, AllByRecursion}
@@ -9,42 +10,20 @@ use Rattle.sv_core.specs.Core as core
 use Rattle.sv_core.specs.declared.node.Core.{Core}
 use Rattle.sv_core.specs.declared.decision.Held.{Held}
 use Rattle.sv_journal.specs.Batch.{Stages, bytes_in, size_of}
-use Rattle.sv_journal.specs.Disk.{LeavesOnly, TellsOn}
+use Rattle.sv_node.proofs.Prelude.{LeavesOnly, TellsOn, JournalView, JournalFault, Told, Input, Moment, Setting, Record, StepFault, Output, Decision, left}
+use Rattle.sv_node.proofs.Prelude.{EngineMeaning, heard_all, decided, Durable, Node as State, Fits, applied_if, with_list, told, spelling, HasSpelling, Replays}
+use Rattle.sv_node.proofs.Prelude.{CanFollow, Stores, RestoresEither, LeavesAdded}
 use Rattle.sv_journal.specs.Format.{entry, IsPayload, OpensEither}
-use Rattle.sv_journal.specs.Journal.{JournalView}
 use Rattle.sv_journal.specs.declared.batch.Batch.{Batch}
 use Rattle.sv_journal.specs.declared.limits.TheConstants.{FILE_LIMIT}
-use Rattle.sv_journal.specs.declared.journal_fault.JournalFault.{JournalFault}
 use Rattle.sv_journal.specs.declared.journal_fault.JournalFault.TheVariants as journal
-use Rattle.sv_model.specs.declared.event.Told.{Told}
-use Rattle.sv_model.specs.declared.input.Input.{Input}
-use Rattle.sv_model.specs.declared.key.Moment.{Moment}
-use Rattle.sv_model.specs.declared.node.Setting.{Setting}
-use Rattle.sv_model.specs.declared.record.Record.{Record}
-use Rattle.sv_model.specs.declared.site.StepFault.{StepFault}
 use Rattle.sv_model.specs.declared.site.StepFault.TheVariants.{Failed, Full, Memory}
-use Rattle.sv_model.specs.declared.output.Output.{Output}
-use Rattle.sv_model.specs.Decision.{Decision, left}
-use Rattle.sv_model.specs.Engine.{EngineMeaning, heard_all}
 use Rattle.sv_model.specs.Journaled.{IsJournaled}
-use Rattle.sv_model.specs.Node.{decided}
-use Rattle.sv_model.specs.NodeState.{Durable, Node as State}
-use Rattle.sv_model.specs.Fitting.{Fits}
-use Rattle.sv_model.specs.Replay.{applied_if}
-use Rattle.sv_model.specs.Site.{with_list}
-use Rattle.sv_model.specs.Step.{told}
-use Rattle.sv_record.specs.Record.{spelling, HasSpelling}
 use Rattle.sv_node.specs.declared.node.Node.{Node}
 use Rattle.sv_node.specs.Group.{Answer, IsAnswer, left_by, entries_by, events_by, behind, entries_of, events_of, Answered, outcomes, events_held, bytes_of, ReplaysMore, LacksRoom, StagesMore, TakesOne, TakesAll, FitsIn, GroupEnds, GroupWrites, IsGroup}
 use Rattle.sv_node.specs.Node.{setting_of, durable_of, journal_of, IsTooLongAt, IsNode}
-use Rattle.sv_node.specs.Records.{Replays, CanFollow}
-use Rattle.sv_node.specs.Stops.{Stores, RestoresEither, LeavesAdded}
 use Rattle.sv_node.proofs.RecordLemmas.{replays_more}
 use Rattle.sv_node.proofs.StopLemmas.{still, still_entries, weaker, restored, left_behind}
-
-pub heard_append : (m : EngineMeaning) (heard : List (List ℕ)) (ts us : List Told) → heard_all m heard (ts ++ us) ≡ heard_all m (heard_all m heard ts) us
-heard_append m heard [] us = refl
-heard_append m heard (t ∷ ts) us = heard_append m (m.hear heard t) ts us
 
 pub nothing : {X : Type 0} (xs : List X) → length xs ≡ 0 → xs ≡ []
 nothing [] none = refl
@@ -116,7 +95,7 @@ pub told_one : (m m_now : EngineMeaning) (start was now : List (List ℕ)) (h : 
 told_one m m_now start was now h todo is same here now_is so_far =
     let rest = flat_map events_held is in
     ap (λ (x : List (List ℕ)). heard_all m x rest) (now_is ∙ ap (λ (e : EngineMeaning). heard_all e was (events_held h)) same)
-    ∙ sym (heard_append m was (events_held h) rest) ∙ ap (λ (xs : List (Result Held StepFault)). heard_all m was (flat_map events_held xs)) (sym here) ∙ so_far
+    ∙ sym (heard_join m was (events_held h) rest) ∙ ap (λ (xs : List (Result Held StepFault)). heard_all m was (flat_map events_held xs)) (sym here) ∙ so_far
 
 -- one step is answered
 pub answered_one : (answers put : List (Result (Vec Output Global) StepFault)) (x : Result (Vec Output Global) StepFault) (h : Result Held StepFault) (todo is : List (Result Held StepFault)) (all : List Answer)

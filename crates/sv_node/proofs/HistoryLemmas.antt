@@ -2,27 +2,15 @@
 use Rattle.std.proofs.Common.{◌≡◌, ◌≢◌, ◌⊎◌, inl, inr, ⊎_elim, ℕ, ◌≤◌, Bool, true, false, cond, IsTrue, Result, Ok, Err, List, [], ◌∷◌, ◌++◌, refl, sym, ap, ◌∙◌, subst, arith, append-nil}
 use Rattle.std.specs.Prelude.{IsErr}
 use Rattle.std.proofs.lemmas.List.Concat.{flat_map-append}
-use Rattle.sv_journal.specs.Journal.{disk_a, disk_b}
-use Rattle.sv_journal.specs.declared.journal_fault.JournalFault.{JournalFault}
+use Rattle.sv_node.proofs.Prelude.{disk_a, disk_b, JournalFault, Told, Input, Moment, Setting, Output, StepFault, Decision, EngineMeaning, heard_all, Durable}
+use Rattle.sv_node.proofs.Prelude.{Node as State, last_number, IsCompaction, engine_of, setting_of, state_of, durable_of, journal_of, decided_at, IsNodeStep}
+use Rattle.sv_node.proofs.Prelude.{IsStarted, restarted, TellsBoth, Stores, Restores, LeavesEither}
 use Rattle.sv_journal.specs.declared.journal_fault.JournalFault.TheVariants as journal
-use Rattle.sv_model.specs.declared.event.Told.{Told}
-use Rattle.sv_model.specs.declared.input.Input.{Input}
 use Rattle.sv_model.specs.declared.input.Input.TheVariants as input
-use Rattle.sv_model.specs.declared.key.Moment.{Moment}
-use Rattle.sv_model.specs.declared.node.Setting.{Setting}
-use Rattle.sv_model.specs.declared.output.Output.{Output}
-use Rattle.sv_model.specs.declared.site.StepFault.{StepFault}
 use Rattle.sv_model.specs.declared.site.StepFault.TheVariants as step
-use Rattle.sv_model.specs.Decision.{Decision}
-use Rattle.sv_model.specs.Engine.{EngineMeaning, heard_all}
-use Rattle.sv_model.specs.NodeState.{Durable, Node as State, last_number}
 use Rattle.sv_node.specs.Call.{Call, Open, Step, Unsaid, Compact, Stop, Done, Refused, Cut, Given, ending_of, After, quiet, kept, carried_out, Does}
 use Rattle.sv_node.specs.Calls.{IsAfterStep, IsStepCall, IsAfterCompaction, IsCompactionCall}
-use Rattle.sv_node.specs.Compaction.{IsCompaction}
 use Rattle.sv_node.specs.History.{Turn, Stand, halted, behind, behind_all, AreTurns, IsAbove, number_in, RiseIn, numbers_in, RisesAt, lowest_behind, Rise, Leads, stand_of, GoesOn, Fails, HasGone, HasEnded, IsLife}
-use Rattle.sv_node.specs.Node.{engine_of, setting_of, state_of, durable_of, journal_of, decided_at, IsNodeStep, IsStarted}
-use Rattle.sv_node.specs.Opened.{restarted}
-use Rattle.sv_node.specs.Stops.{TellsBoth, Stores, Restores, LeavesEither}
 use Rattle.sv_node.specs.declared.node.Node.{Node}
 use Rattle.sv_node.proofs.CallLemmas.{opened, stepped, compacted, same_state}
 use Rattle.sv_node.proofs.OpenLemmas.{one_state}
@@ -38,7 +26,7 @@ turns_join : (m : EngineMeaning) (set : Setting) (s : Stand) (xs ys : List Turn)
 turns_join m set s [] ys are more = more
 turns_join m set s (x ∷ xs) ys are more = (are.0, turns_join m set (behind s x) xs ys are.1 more)
 
-heard_join : (m : EngineMeaning) (heard : List (List ℕ)) (ts us : List Told) → heard_all m heard (ts ++ us) ≡ heard_all m (heard_all m heard ts) us
+pub heard_join : (m : EngineMeaning) (heard : List (List ℕ)) (ts us : List Told) → heard_all m heard (ts ++ us) ≡ heard_all m (heard_all m heard ts) us
 heard_join m heard [] us = refl
 heard_join m heard (t ∷ ts) us = heard_join m (m.hear heard t) ts us
 
@@ -66,14 +54,14 @@ pub lower_numbers : (low mid : ℕ) (gs : List Given) → low ≤ mid → number
 lower_numbers low mid [] le = le
 lower_numbers low mid (g ∷ gs) le = lower_numbers (number_in low g.input) (number_in mid g.input) gs (lower_number low mid g.input le)
 
-lower_call : (low mid : ℕ) (c : Call) → low ≤ mid → RisesAt mid c → RisesAt low c
+pub lower_call : (low mid : ℕ) (c : Call) → low ≤ mid → RisesAt mid c → RisesAt low c
 lower_call low mid (Open ending) le rises = tt
 lower_call low mid (Step at i ending) le rises = lower_input low mid i le rises
 lower_call low mid (Unsaid gs) le rises = lower_all low mid gs le rises
 lower_call low mid (Compact ending) le rises = tt
 lower_call low mid Stop le rises = tt
 
-lower_behind : (low mid : ℕ) (c : Call) → low ≤ mid → lowest_behind low c ≤ lowest_behind mid c
+pub lower_behind : (low mid : ℕ) (c : Call) → low ≤ mid → lowest_behind low c ≤ lowest_behind mid c
 lower_behind low mid (Open Done) le = omega arith
 lower_behind low mid (Open (Refused fault)) le = le
 lower_behind low mid (Open Cut) le = le
@@ -82,11 +70,11 @@ lower_behind low mid (Unsaid gs) le = lower_numbers low mid gs le
 lower_behind low mid (Compact ending) le = le
 lower_behind low mid Stop le = le
 
-lower_rise : (low mid high : ℕ) (ts : List Turn) → low ≤ mid → Rise mid high ts → Rise low high ts
+pub lower_rise : (low mid high : ℕ) (ts : List Turn) → low ≤ mid → Rise mid high ts → Rise low high ts
 lower_rise low mid high [] le rise = omega (arith, le, rise)
 lower_rise low mid high (t ∷ ts) le rise = (lower_call low mid t.call le rise.0, lower_rise (lowest_behind low t.call) (lowest_behind mid t.call) high ts (lower_behind low mid t.call le) rise.1)
 
-rise_join : (low mid high : ℕ) (xs ys : List Turn) → Rise low mid xs → Rise mid high ys → Rise low high (xs ++ ys)
+pub rise_join : (low mid high : ℕ) (xs ys : List Turn) → Rise low mid xs → Rise mid high ys → Rise low high (xs ++ ys)
 rise_join low mid high [] ys le rise = lower_rise low mid high ys le rise
 rise_join low mid high (x ∷ xs) ys first rise = (first.0, rise_join (lowest_behind low x.call) mid high xs ys first.1 rise)
 

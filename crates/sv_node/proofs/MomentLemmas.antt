@@ -1,25 +1,12 @@
 -- What a stop leaves at any moment: of a group, of a compaction, and of calls one after the other.
 use Rattle.std.proofs.Common.{◌≡◌, ◌≢◌, inl, inr, ⊎_elim, ℕ, Bool, true, false, cond, IsTrue, Result, Ok, Err, List, [], ◌∷◌, ◌++◌, refl, sym, ap, subst, arith}
-use Rattle.sv_journal.specs.Disk.{Only, LeavesOnly}
-use Rattle.sv_journal.specs.Journal.{disk_a, disk_b}
-use Rattle.sv_journal.specs.declared.journal_fault.JournalFault.{JournalFault}
+use Rattle.sv_node.proofs.Prelude.{Only, LeavesOnly, disk_a, disk_b, JournalFault, Input, Moment, Setting, StepFault, EngineMeaning, Durable, Node as State}
+use Rattle.sv_node.proofs.Prelude.{last_number, Stop, quiet, kept, IsCompaction, RestoresBeside, written, Answer, GroupEnds, IsGroup, behind, all_given, Stand}
+use Rattle.sv_node.proofs.Prelude.{halted, stand_of, RiseIn, numbers_in, Leads, GoesOn, engine_of, setting_of, state_of, durable_of, journal_of, IsStarted}
+use Rattle.sv_node.proofs.Prelude.{StartsWithoutLoss, restarted, TellsBoth, Stores, RestoresOn, RestoresEither, Restores}
 use Rattle.sv_journal.proofs.Quiet.{leaves_weaker}
-use Rattle.sv_model.specs.declared.input.Input.{Input}
-use Rattle.sv_model.specs.declared.key.Moment.{Moment}
-use Rattle.sv_model.specs.declared.node.Setting.{Setting}
-use Rattle.sv_model.specs.declared.site.StepFault.{StepFault}
 use Rattle.sv_model.specs.declared.site.StepFault.TheVariants.{Failed, Full, Device, Memory}
-use Rattle.sv_model.specs.Engine.{EngineMeaning}
-use Rattle.sv_model.specs.NodeState.{Durable, Node as State, last_number}
-use Rattle.sv_node.specs.Call.{Stop, quiet, kept}
-use Rattle.sv_node.specs.Compaction.{IsCompaction, RestoresBeside, written}
-use Rattle.sv_node.specs.Group.{Answer, GroupEnds, IsGroup, behind}
-use Rattle.sv_node.specs.GroupCalls.{all_given}
-use Rattle.sv_node.specs.History.{Stand, halted, stand_of, RiseIn, numbers_in, Leads, GoesOn}
 use Rattle.sv_node.specs.Moments.{Disks, WritesBeside, WritesOneOf, AreStretches, LeavesBoth, disks_of, Reaches, RunsWithoutLoss, ReachesFrom, LivesWithoutLoss}
-use Rattle.sv_node.specs.Node.{engine_of, setting_of, state_of, durable_of, journal_of, IsStarted}
-use Rattle.sv_node.specs.Opened.{StartsWithoutLoss, restarted}
-use Rattle.sv_node.specs.Stops.{TellsBoth, Stores, RestoresOn, RestoresEither, Restores}
 use Rattle.sv_node.specs.declared.node.Node.{Node}
 use Rattle.sv_node.proofs.CallLemmas.{same_state}
 use Rattle.sv_node.proofs.GroupCallLemmas.{group_leads}

@@ -1,31 +1,19 @@
 -- What an opening finds, and what a stop leaves of disks that it has handed back.
 use Rattle.std.proofs.Common.{◌≡◌, ◌⊎◌, inl, inr, ⊎_elim, ℕ, ◌≤◌, Bool, true, false, cond, List, sym, ap, ◌∙◌, subst}
 use Rattle.std.proofs.Common.{◌+◌, Some, arith, refl}
-use Rattle.sv_journal.specs.Disk.{Only, LeavesOnly, TellsOn, HasRisen}
+use Rattle.sv_node.proofs.Prelude.{Only, LeavesOnly, TellsOn, HasRisen, OpensWithoutLoss, JournalFault, Setting, Blank, Record, Durable, Node as State}
+use Rattle.sv_node.proofs.Prelude.{IsSetting, IsRecord, IsRanged, Boot, Forgets, blank, boot_record, replayed, AllFit, record_format, IsSpelling, Damaged}
+use Rattle.sv_node.proofs.Prelude.{Device, Full, Spell, Replays, CanFollow, Restores}
 use Rattle.sv_journal.specs.Format.{Opens, OpensAlike}
-use Rattle.sv_journal.specs.Journal.{OpensWithoutLoss}
 use Rattle.sv_journal.proofs.JournalLemmas.{one_opening}
-use Rattle.sv_journal.specs.declared.journal_fault.JournalFault.{JournalFault}
 use Rattle.sv_journal.specs.declared.journal_fault.JournalFault.TheVariants as journal
 use Rattle.sv_core.specs.declared.fault.ApplyFault.{ApplyFault}
 use Rattle.sv_core.specs.declared.fault.ApplyFault.TheVariants as apply
-use Rattle.sv_model.specs.declared.node.Setting.{Setting}
-use Rattle.sv_model.specs.declared.node.Stage.TheVariants.{Blank}
-use Rattle.sv_model.specs.declared.record.Record.{Record}
-use Rattle.sv_model.specs.NodeState.{Durable, Node as State}
-use Rattle.sv_model.specs.Ranges.{IsSetting, IsRecord, IsRanged}
-use Rattle.sv_model.specs.declared.record.Record.TheVariants.{Boot, Forgets}
 use Rattle.std.proofs.lemmas.Bool.{cond_both}
 use Rattle.sv_core.proofs.RangeLemmas.{starts_journaled, starts_ranged}
-use Rattle.sv_model.specs.Replay.{blank, boot_record, replayed}
-use Rattle.sv_model.specs.Fitting.{AllFit}
-use Rattle.sv_record.specs.Record.{record_format, IsSpelling}
 use Rattle.sv_record.proofs.KindLaws.{record_lawful}
 use Rattle.sv_record.proofs.WholeLaws.{one_value}
-use Rattle.sv_node.specs.declared.fault.OpenFault.TheVariants.{Damaged, Device, Full}
 use Rattle.sv_node.specs.Fault.{open_fault, apply_fault}
-use Rattle.sv_node.specs.Records.{Spell, Replays, CanFollow}
-use Rattle.sv_node.specs.Stops.{Restores}
 use Rattle.sv_node.specs.Opened.{LeavesStart, LeavesUnstarted, restarted}
 use Rattle.sv_node.proofs.RecordLemmas.{one_list}
 

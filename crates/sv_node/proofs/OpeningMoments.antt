@@ -1,13 +1,8 @@
 -- What a stop at any moment of an opening leaves.
 use Rattle.std.proofs.Common.{◌≡◌, ◌⊎◌, inl, inr, ⊎_elim, ℕ, Bool, true, false, cond, List, refl, sym, subst}
-use Rattle.sv_journal.specs.Disk.{Only, LeavesOnly}
-use Rattle.sv_journal.specs.Format.{OpensAlike}
-use Rattle.sv_journal.specs.Journal.{JournalView, OpensWithoutLoss, disk_a, disk_b}
+use Rattle.sv_node.proofs.Prelude.{Only, LeavesOnly, OpensAlike, JournalView, OpensWithoutLoss, disk_a, disk_b, Setting, Durable, Restores, RestoresEither}
 use Rattle.sv_journal.proofs.Quiet.{leaves_weaker, leaves_then}
-use Rattle.sv_model.specs.declared.node.Setting.{Setting}
-use Rattle.sv_model.specs.NodeState.{Durable}
 use Rattle.sv_node.specs.Opened.{GivesStart, WritesOne, StartsWithoutLoss, restarted}
-use Rattle.sv_node.specs.Stops.{Restores, RestoresEither}
 use Rattle.sv_node.proofs.OpenLemmas.{alike}
 
 gives_first : (set : Setting) (image other : List ℕ) (d : Durable) → RestoresEither set other d (restarted set d) image → GivesStart set d image other

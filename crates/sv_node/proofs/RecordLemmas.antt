@@ -2,23 +2,14 @@
 use Rattle.std.proofs.Common.{◌≡◌, ℕ, zero, suc, List, [], ◌∷◌, ◌++◌, length, drop, refl, sym, ap, ◌∙◌, subst}
 use Rattle.std.specs.Prelude.{map, Some, Ok, Err}
 use Rattle.std.specs.List.{AllByRecursion}
-use Rattle.sv_model.specs.declared.node.Setting.{Setting}
+use Rattle.sv_node.proofs.Prelude.{Setting, Blank, Record, Durable, blank, applied, replayed, Two, spelling, HasSpelling, IsSpelling, staged, OpenFault}
+use Rattle.sv_node.proofs.Prelude.{Damaged, Spell, Replays, CanFollow}
 use Rattle.sv_model.specs.declared.node.Stage.{Stage}
-use Rattle.sv_model.specs.declared.node.Stage.TheVariants.{Blank}
-use Rattle.sv_model.specs.declared.record.Record.{Record}
-use Rattle.sv_model.specs.NodeState.{Durable}
-use Rattle.sv_model.specs.Replay.{blank, applied, replayed}
 use Rattle.sv_model.specs.Fitting.{Fits, AllFit, stage_behind}
-use Rattle.sv_record.specs.declared.version.Version.TheVariants.{Two}
-use Rattle.sv_record.specs.Record.{spelling, HasSpelling, IsSpelling}
 use Rattle.sv_record.specs.declared.fault.RecordFault.{RecordFault}
 use Rattle.sv_record.specs.declared.fault.RecordFault.TheVariants.{Truncated, BadVersion, Foreign, BadField, Memory}
 use Rattle.sv_record.specs.Reading.{Gives}
-use Rattle.sv_core.specs.Snapshot.{staged}
-use Rattle.sv_node.specs.declared.fault.OpenFault.{OpenFault}
-use Rattle.sv_node.specs.declared.fault.OpenFault.TheVariants.{Damaged}
 use Rattle.sv_node.specs.Fault.{read_fault}
-use Rattle.sv_node.specs.Records.{Spell, Replays, CanFollow}
 
 pub spell_length : (entries : List (List ℕ)) (rs : List Record) → Spell entries rs → length rs ≡ length entries
 spell_length [] [] s = refl

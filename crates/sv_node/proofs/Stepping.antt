@@ -1,23 +1,12 @@
 -- A step of a node, from the steps of its core and its journal.
 use Rattle.std.proofs.Common.{◌≡◌, ℕ, ◌≤◌, false, List, Result, Err, IsTrue, IsErrOf, refl, sym, ap, subst}
 use Rattle.std.specs.Option.{option_to_list}
-use Rattle.sv_journal.specs.Disk.{LeavesOnly, TellsOn, HasRisen}
-use Rattle.sv_journal.specs.Journal.{JournalView}
-use Rattle.sv_journal.specs.declared.journal_fault.JournalFault.{JournalFault}
+use Rattle.sv_node.proofs.Prelude.{LeavesOnly, TellsOn, HasRisen, JournalView, JournalFault, Setting, Output, StepFault, Failed, EngineMeaning, Decision}
+use Rattle.sv_node.proofs.Prelude.{Durable, Node as State, IsRanged, IsSetting, step_fault, TellsBoth, Stores, RestoresEither, LeavesAdded, view_of, engine_of}
+use Rattle.sv_node.proofs.Prelude.{setting_of, state_of, durable_of, journal_of, IsNode, IsTooLong, Ends, IsNodeStep}
 use Rattle.sv_journal.specs.declared.journal_fault.JournalFault.TheVariants as journal
-use Rattle.sv_model.specs.declared.node.Setting.{Setting}
-use Rattle.sv_model.specs.declared.output.Output.{Output}
-use Rattle.sv_model.specs.declared.site.StepFault.{StepFault}
-use Rattle.sv_model.specs.declared.site.StepFault.TheVariants.{Failed}
-use Rattle.sv_model.specs.Engine.{EngineMeaning}
-use Rattle.sv_model.specs.Decision.{Decision}
-use Rattle.sv_model.specs.NodeState.{Durable, Node as State}
-use Rattle.sv_model.specs.Ranges.{IsRanged, IsSetting}
 use Rattle.sv_model.specs.Step.{View, IsStep}
 use Rattle.sv_node.specs.declared.node.Node.{Node}
-use Rattle.sv_node.specs.Fault.{step_fault}
-use Rattle.sv_node.specs.Stops.{TellsBoth, Stores, RestoresEither, LeavesAdded}
-use Rattle.sv_node.specs.Node.{view_of, engine_of, setting_of, state_of, durable_of, journal_of, IsNode, IsTooLong, Ends, IsNodeStep}
 use Rattle.sv_node.proofs.StopLemmas.{still, still_entries, left_behind}
 
 module _ {E D : Type 0} (valid : E → Type 0) (meaning : E → EngineMeaning) (heard : E → List (List ℕ)) (tells : D → Type 0) (seen : D → List ℕ) (may_leave : D → List ℕ → Type 0) (moment : D → ℕ) (left_since : D → ℕ → List ℕ → Type 0) (failed : D → ℕ)

@@ -1,16 +1,8 @@
 -- What stops leave of a journal of records.
 use Rattle.std.proofs.Common.{◌≡◌, ◌⊎◌, inl, inr, ⊎_elim, ℕ, ◌≤◌, Bool, true, false, cond, List, [], ◌∷◌, ◌++◌, map, sym, subst, arith}
 use Rattle.std.specs.Prelude.{Some}
-use Rattle.sv_journal.specs.Disk.{Only, LeavesOnly}
-use Rattle.sv_journal.specs.Format.{OpensOn, OpensEither}
-use Rattle.sv_journal.specs.Journal.{JournalView, Holds, disk_a, disk_b}
-use Rattle.sv_model.specs.declared.node.Setting.{Setting}
-use Rattle.sv_model.specs.declared.record.Record.{Record}
-use Rattle.sv_model.specs.NodeState.{Durable}
-use Rattle.sv_model.specs.Replay.{applied}
-use Rattle.sv_record.specs.Record.{spelling, HasSpelling}
-use Rattle.sv_node.specs.Records.{Replays, CanFollow}
-use Rattle.sv_node.specs.Stops.{Stores, RestoresOn, Restores, RestoresEither, LeavesEither, LeavesAdded}
+use Rattle.sv_node.proofs.Prelude.{Only, LeavesOnly, OpensOn, OpensEither, JournalView, Holds, disk_a, disk_b, Setting, Record, Durable, applied, spelling}
+use Rattle.sv_node.proofs.Prelude.{HasSpelling, Replays, CanFollow, Stores, RestoresOn, Restores, RestoresEither, LeavesEither, LeavesAdded}
 use Rattle.sv_node.proofs.RecordLemmas.{replays_more}
 
 -- either side, with its records

@@ -94,14 +94,14 @@ fn take<E: Engine, D: Disk>(
 }
 
 /// Room for what steps are to give: their records, what is held of them, and their answers.
-struct Room {
+struct GroupRoom {
     batch: Batch,
     held: Vec<Result<Held, StepFault>>,
     answers: Vec<Result<Vec<Output>, StepFault>>,
 }
 
 /// Room for so many steps.
-fn room_for(alloc: Global, many: usize) -> Result<Room, AllocError>
+fn room_for(alloc: Global, many: usize) -> Result<GroupRoom, AllocError>
     ensures batch { IfOk result (λ room. Stages room.batch []) }
     ensures held { IfOk result (λ room. (room.held.items ≡ []) × (many ≤ vec_capacity room.held)) }
     ensures answers { IfOk result (λ room. (room.answers.items ≡ []) × (many ≤ vec_capacity room.answers)) }
@@ -109,7 +109,7 @@ fn room_for(alloc: Global, many: usize) -> Result<Room, AllocError>
     let batch = Batch::with_capacity(alloc, 1)?;
     let held = Vec::with_capacity(alloc, many)?;
     let answers = Vec::with_capacity(alloc, many)?;
-    Ok(Room {
+    Ok(GroupRoom {
         batch,
         held,
         answers,
@@ -216,7 +216,7 @@ impl<E: Engine, D: Disk> Node<E, D> {
         let Ok(room) = room_for(self.alloc, inputs.len()) else {
             return Err(StepFault::Memory);
         };
-        let Room {
+        let GroupRoom {
             mut batch,
             mut held,
             mut answers,

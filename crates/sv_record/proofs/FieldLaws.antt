@@ -7,14 +7,9 @@ use Rattle.std.specs.Str.{is_utf8}
 use Rattle.std.proofs.lemmas.Bool.Decides.{nat_tests}
 use Rattle.std.proofs.lemmas.Int.{of_z-to_z, to_z-of_z}
 use Rattle.std.proofs.Math.Facts.{sfits_to_z, Fits-of_z}
-use Rattle.sv_model.specs.declared.session.TheConstants.{CONTEXT_LIMIT, ATTRIBUTE_LIMIT}
-use Rattle.sv_record.specs.declared.version.Version.{Version}
-use Rattle.sv_record.specs.declared.version.Version.TheVariants.{One, Two}
-use Rattle.sv_record.specs.Reading.{◌>>=◌, Reading, number_at}
-use Rattle.sv_record.specs.Format.{number, raw, pair, such_that, sized}
-use Rattle.sv_record.specs.Field.{long, counting, node, key, flag, signed}
-use Rattle.sv_record.specs.Version.{value_width}
-use Rattle.sv_record.specs.Session.{Before, at_first, behind, is_below, is_name_length, is_value_length, name, value, attribute, attributes, context, session}
+use Rattle.sv_record.proofs.Prelude.{CONTEXT_LIMIT, ATTRIBUTE_LIMIT, Version, One, Two, ◌>>=◌, Reading, number_at, number, raw, pair, such_that, sized, long}
+use Rattle.sv_record.proofs.Prelude.{counting, node, key, flag, signed, value_width, Before, at_first, behind, is_below, is_name_length, is_value_length, name}
+use Rattle.sv_record.proofs.Prelude.{value, attribute, attributes, context, session}
 use Rattle.sv_record.proofs.FormatLaws.{Lawful, Takes, IsWide, wide8, wide16, wide32, wide64, bind_ok, ok_is, number_lawful, raw_lawful, chain_lawful, pair_lawful, seen_as_lawful, such_that_lawful, sized_lawful, counted_lawful}
 
 byte_that : (test : ℕ → Bool) → Lawful (such_that (number w8) test)

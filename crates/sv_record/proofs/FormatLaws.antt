@@ -5,8 +5,7 @@ use Rattle.std.proofs.lemmas.Bool.{cases_lt, ltb-false, le-ltb, eqb-true}
 use Rattle.std.proofs.lemmas.List.{take_at, drop_at, take-append-drop, length-append, length-take, get_or-drop, get_or-take, get_or_past}
 use Rattle.std.proofs.lemmas.List.Elements.{All-get_or}
 use Rattle.std.proofs.lemmas.Nat.{be_bytes_2, be_bytes_4, be_bytes_8, from_be_bytes-to_be_bytes_2, from_be_bytes-to_be_bytes_4, from_be_bytes-to_be_bytes_8}
-use Rattle.sv_record.specs.declared.fault.RecordFault.{RecordFault}
-use Rattle.sv_record.specs.declared.fault.RecordFault.TheVariants.{Truncated, BadField}
+use Rattle.sv_record.proofs.Prelude.{RecordFault, Truncated, BadField}
 use Rattle.sv_record.specs.Reading.{◌>>=◌, IsBytes, Reading, number_at, bytes_at}
 use Rattle.sv_record.specs.Format.{Format, ByKind, number, raw, nothing, chain, pair, such_that, seen_as, sized, texts, FitAll, reads, counted, kind_at, no_kind, tagged}
 

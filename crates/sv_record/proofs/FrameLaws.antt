@@ -4,23 +4,14 @@ use Rattle.std.specs.Prelude.{◌||◌, IfOk, IfSome, IfNone}
 use Rattle.std.specs.Int.{w8, w32, to_be_bytes, from_be_bytes}
 use Rattle.std.proofs.lemmas.Bool.{cases_lt, ltb-false, le-ltb, lt-ltb, ltb-true, eqb-true}
 use Rattle.std.proofs.lemmas.List.{append-nil, nil_from_length, take_at, drop_at, take-append-drop, take-append-le, drop-append-le, length-append, length-take, length-replicate}
-use Rattle.sv_model.specs.declared.key.Key.{Key}
-use Rattle.sv_record.specs.declared.fault.RecordFault.{RecordFault}
-use Rattle.sv_record.specs.declared.fault.RecordFault.TheVariants.{Foreign, BadField}
-use Rattle.sv_record.specs.declared.frame.Frame.{Frame}
-use Rattle.sv_record.specs.declared.frame.Frame.TheVariants.{Peer, Move, Tick, Halt}
+use Rattle.sv_record.proofs.Prelude.{Key, RecordFault, Foreign, BadField, Frame, Peer, Move, Tick, Halt, ◌>>=◌, Reading, Gives, number_at, ended, nothing, pair}
+use Rattle.sv_record.proofs.Prelude.{long, counting, node, key, Version, Two, IsFrame}
 use Rattle.sv_record.specs.declared.frame.TheConstants.{PEER, CONTROL, PAYLOAD_LIMIT}
-use Rattle.sv_record.specs.Reading.{◌>>=◌, Reading, Gives, number_at, ended}
-use Rattle.sv_record.specs.Format.{nothing, pair}
-use Rattle.sv_record.specs.Field.{long, counting, node, key}
-use Rattle.sv_record.specs.declared.version.Version.{Version}
-use Rattle.sv_record.specs.declared.version.Version.TheVariants.{Two}
 use Rattle.sv_record.specs.Packet as packet
 use Rattle.sv_record.specs.Frame.{envelope, first_of, payload_by, spelling_by, HasSpellingBy, IsSpelling, command_by_kind, command_at, payload_at, so_many_at, sized_at, taken_at, frame_at, IsFront}
 use Rattle.sv_record.proofs.FormatLaws.{AreBytes, AreBytes-take, AreBytes-drop, bind_ok, guard_ok, held_ok, chosen, ok_is, Lawful, number_lawful, nothing_lawful, pair_lawful, wide8, wide32, TakesByKind, kind_takes, no_kind_takes}
 use Rattle.sv_record.proofs.FieldLaws.{node_lawful, key_lawful}
 use Rattle.sv_record.proofs.KindLaws.{packet_lawful}
-use Rattle.sv_record.specs.Frame.{IsFrame}
 use Rattle.sv_record.proofs.RangeLemmas.{frame_range}
 use Rattle.sv_record.proofs.SizeLemmas.{packet_size}
 use Rattle.sv_record.proofs.WholeLaws.{ended_ok, whole_takes, whole_again}

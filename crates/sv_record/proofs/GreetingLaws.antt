@@ -5,14 +5,11 @@ use Rattle.std.specs.Int.{w8, w32}
 use Rattle.std.proofs.lemmas.Bool.{eqb-true}
 use Rattle.std.proofs.lemmas.List.{append-nil}
 use Rattle.std.proofs.lemmas.Bool.Decides.{nat_tests}
-use Rattle.sv_record.specs.declared.fault.RecordFault.{RecordFault}
+use Rattle.sv_record.proofs.Prelude.{RecordFault, ◌>>=◌, Reading, Gives, ended, number, raw, pair, such_that, long, node}
 use Rattle.sv_record.specs.declared.greeting.Errand.{Errand}
 use Rattle.sv_record.specs.declared.greeting.Errand.TheVariants.{Opening, Serving, Answer, Look}
 use Rattle.sv_record.specs.declared.greeting.Greeting.{Greeting}
 use Rattle.sv_record.specs.declared.greeting.TheConstants.{GREETING, PAYLOAD_LEN, VERSION, CONTEXTS_LEN}
-use Rattle.sv_record.specs.Reading.{◌>>=◌, Reading, Gives, ended}
-use Rattle.sv_record.specs.Format.{number, raw, pair, such_that}
-use Rattle.sv_record.specs.Field.{long, node}
 use Rattle.sv_record.specs.Greeting.{byte_of, errand_of, errand, heads, head, body, greeting, greeting_of, IsGreeting}
 use Rattle.sv_record.proofs.FormatLaws.{AreBytes, Lawful, bind_ok, number_lawful, raw_lawful, pair_lawful, seen_as_lawful, such_that_lawful, wide8, wide32}
 use Rattle.sv_record.proofs.FieldLaws.{long_lawful, node_lawful}

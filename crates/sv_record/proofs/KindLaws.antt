@@ -1,19 +1,9 @@
 -- The laws of records and packets, kind by kind.
 use Rattle.std.proofs.Common.{◌≡◌, ℕ, ◌<◌, ◌++◌, List, Ok, refl, lit<, not, ◌&&◌}
-use Rattle.sv_model.specs.declared.record.Change.{Change}
-use Rattle.sv_model.specs.declared.record.Change.TheVariants.{Absent, Alive, Ended}
-use Rattle.sv_model.specs.declared.state.KeyState.{KeyState}
+use Rattle.sv_record.proofs.Prelude.{Change, Absent, Alive, Ended, KeyState, Record, Packet, Want, Grant, Ack, No, Foreign, BadField, Version, nothing, pair}
+use Rattle.sv_record.proofs.Prelude.{long, counting, node, key, session, is_absent}
 use Rattle.sv_model.specs.declared.state.KeyState.TheVariants as kept
-use Rattle.sv_model.specs.declared.record.Record.{Record}
 use Rattle.sv_model.specs.declared.record.Record.TheVariants as rec
-use Rattle.sv_model.specs.declared.packet.Packet.{Packet}
-use Rattle.sv_model.specs.declared.packet.Packet.TheVariants.{Want, Grant, Ack, No}
-use Rattle.sv_record.specs.declared.fault.RecordFault.TheVariants.{Foreign, BadField}
-use Rattle.sv_record.specs.declared.version.Version.{Version}
-use Rattle.sv_record.specs.Format.{nothing, pair}
-use Rattle.sv_record.specs.Field.{long, counting, node, key}
-use Rattle.sv_record.specs.Session.{session}
-use Rattle.sv_model.specs.Ranges.{is_absent}
 use Rattle.sv_record.specs.Record.{kind_of_change, change_fields, ChangeFits, change_by_kind, change, commit, kind_of_state, state_fields, StateFits, state_by_kind, key_state, handover, record_format}
 use Rattle.sv_record.specs.Record as spec
 use Rattle.sv_record.specs.Packet.{ends, asked, granted, acknowledged, packet_format}

@@ -1,3 +1,4 @@
+mod Prelude
 pub mod FormatLaws
 pub mod FieldLaws
 pub mod KindLaws

@@ -1,10 +1,8 @@
 -- Reading items one after the other, as a loop does.
 use Rattle.std.proofs.Common.{◌≡◌, ℕ, suc, ◌-◌, ◌+◌, ◌≤◌, ◌<◌, List, [], ◌∷◌, ◌++◌, Ok, Err, refl, sym, ap, ◌∙◌, append_assoc, arith}
 use Rattle.std.proofs.lemmas.List.{append-nil}
-use Rattle.sv_record.specs.declared.fault.RecordFault.{RecordFault}
+use Rattle.sv_record.proofs.Prelude.{RecordFault, ◌>>=◌, Reading, Fails, Format, reads}
 use Rattle.sv_record.specs.declared.fault.RecordFault.TheVariants.{Truncated, BadVersion, Foreign, BadField, Memory}
-use Rattle.sv_record.specs.Reading.{◌>>=◌, Reading, Fails}
-use Rattle.sv_record.specs.Format.{Format, reads}
 
 module _ {S A : Type 0} (item : S → Format A) (next : S → A → S) where
   -- what was read before, and what is still read

@@ -10,33 +10,17 @@ use Rattle.std.proofs.lemmas.Bool.Decides.{nat_tests}
 use Rattle.std.proofs.lemmas.List.Elements.{All-from_recursion, recursion_from_All}
 use Rattle.sv_model.specs.Attributes.{NamesRise, name_cmp, names_of, attributes_size}
 use Rattle.sv_model.specs.Limits.{IsWithinLimits}
-use Rattle.sv_model.specs.declared.key.Key.{Key}
-use Rattle.sv_model.specs.declared.session.Session.{Session}
-use Rattle.sv_model.specs.declared.state.KeyState.{KeyState}
+use Rattle.sv_record.proofs.Prelude.{Key, Session, KeyState, Change, Absent, Alive, Ended, Record, Packet, Want, Grant, Ack, No, CONTEXT_LIMIT, ATTRIBUTE_LIMIT}
+use Rattle.sv_record.proofs.Prelude.{NAME_LIMIT, VALUE_LIMIT, SESSION_LIMIT, Version, One, Two, value_limit, session_limit, FitAll, Attribute, Before, at_first}
+use Rattle.sv_record.proofs.Prelude.{behind, is_below, is_name_length, is_value_length, name, value, attribute, attributes, context, session, Frame, Peer, Move}
+use Rattle.sv_record.proofs.Prelude.{Tick, Halt, counting, node, key, IsFrame, is_absent, change, commit, handover, key_state}
 use Rattle.sv_model.specs.declared.state.KeyState.TheVariants as kept
-use Rattle.sv_model.specs.declared.record.Change.{Change}
-use Rattle.sv_model.specs.declared.record.Change.TheVariants.{Absent, Alive, Ended}
-use Rattle.sv_model.specs.declared.record.Record.{Record}
 use Rattle.sv_model.specs.declared.record.Record.TheVariants as rec
-use Rattle.sv_model.specs.declared.packet.Packet.{Packet}
-use Rattle.sv_model.specs.declared.packet.Packet.TheVariants.{Want, Grant, Ack, No}
-use Rattle.sv_model.specs.declared.session.TheConstants.{CONTEXT_LIMIT, ATTRIBUTE_LIMIT, NAME_LIMIT, VALUE_LIMIT, SESSION_LIMIT}
 use Rattle.sv_model.proofs.AttributesLemmas.{NamesRise-head, NamesRise-tail, attributes_size-cons, attributes_size-nil}
-use Rattle.sv_record.specs.declared.version.Version.{Version}
-use Rattle.sv_record.specs.declared.version.Version.TheVariants.{One, Two}
-use Rattle.sv_record.specs.Version.{value_limit, session_limit}
-use Rattle.sv_record.specs.Format.{FitAll}
-use Rattle.sv_record.specs.Session.{Attribute, Before, at_first, behind, is_below, is_name_length, is_value_length, name, value, attribute, attributes, context, session}
-use Rattle.sv_record.specs.declared.frame.Frame.{Frame}
-use Rattle.sv_record.specs.declared.frame.Frame.TheVariants.{Peer, Move, Tick, Halt}
-use Rattle.sv_record.specs.Field.{counting, node, key}
 use Rattle.sv_record.specs.Frame as frame
 use Rattle.sv_record.specs.Packet as packet
 use Rattle.sv_model.specs.Keys.{IsNode, IsCounting, IsKey}
 use Rattle.sv_model.specs.Ranges.{IsChange, IsState, IsHandover, IsRecord, IsPacket}
-use Rattle.sv_record.specs.Frame.{IsFrame}
-use Rattle.sv_model.specs.Ranges.{is_absent}
-use Rattle.sv_record.specs.Record.{change, commit, handover, key_state}
 use Rattle.sv_record.specs.Record as spec
 
 pub name_length : (v : Version) (total n : ℕ) → 0 < n → n ≤ NAME_LIMIT → total + n ≤ session_limit v → is_name_length v total n ≡ true

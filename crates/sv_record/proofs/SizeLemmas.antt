@@ -3,24 +3,13 @@ use Rattle.std.proofs.Common.{◌≡◌, ℕ, ◌+◌, ◌*◌, ◌≤◌, List,
 use Rattle.std.specs.Int.{w16, w32, to_be_bytes}
 use Rattle.std.proofs.lemmas.Bool.{ltb-false}
 use Rattle.std.proofs.lemmas.List.{length-append}
-use Rattle.sv_model.specs.declared.session.Session.{Session}
-use Rattle.sv_model.specs.declared.session.TheConstants.{ATTRIBUTE_LIMIT, SESSION_LIMIT}
-use Rattle.sv_model.specs.declared.packet.Packet.{Packet}
-use Rattle.sv_model.specs.declared.packet.Packet.TheVariants.{Want, Grant, Ack, No}
-use Rattle.sv_record.specs.declared.version.Version.{Version}
-use Rattle.sv_record.specs.declared.version.Version.TheVariants.{One, Two}
-use Rattle.sv_record.specs.Version.{session_limit}
-use Rattle.sv_record.specs.Format.{texts, FitAll}
-use Rattle.sv_record.specs.Field.{long, counting, node, key, flag, signed}
-use Rattle.sv_record.specs.Session.{Attribute, Before, at_first, behind, name, value, attribute, attributes, context, session}
+use Rattle.sv_record.proofs.Prelude.{Session, ATTRIBUTE_LIMIT, SESSION_LIMIT, Packet, Want, Grant, Ack, No, Version, One, Two, session_limit, texts, FitAll}
+use Rattle.sv_record.proofs.Prelude.{long, counting, node, key, flag, signed, Attribute, Before, at_first, behind, name, value, attribute, attributes, context}
+use Rattle.sv_record.proofs.Prelude.{session, Change, Absent, Alive, Ended, Record, KeyState}
 use Rattle.sv_record.specs.Packet as packet
 use Rattle.sv_record.specs.Record as record_
 use Rattle.sv_record.proofs.RangeLemmas.{limited, session_limit_least}
-use Rattle.sv_model.specs.declared.record.Change.{Change}
-use Rattle.sv_model.specs.declared.record.Change.TheVariants.{Absent, Alive, Ended}
-use Rattle.sv_model.specs.declared.record.Record.{Record}
 use Rattle.sv_model.specs.declared.record.Record.TheVariants as rec
-use Rattle.sv_model.specs.declared.state.KeyState.{KeyState}
 use Rattle.sv_model.specs.declared.state.KeyState.TheVariants as kept
 
 attribute_size : (v : Version) (b : Before) (x : Attribute) → length ((attribute v b).text x) ≤ 6 + length x.0 + length x.1

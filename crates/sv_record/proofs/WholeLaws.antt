@@ -3,13 +3,8 @@ use Rattle.std.proofs.Common.{◌≡◌, inl, inr, ℕ, eqb, cond, List, [], ◌
 use Rattle.std.specs.Int.{w8, to_be_bytes}
 use Rattle.std.proofs.lemmas.Bool.{eqb-true}
 use Rattle.std.proofs.lemmas.List.{append-nil, nil_from_length}
-use Rattle.sv_record.specs.declared.fault.RecordFault.{RecordFault}
-use Rattle.sv_record.specs.declared.fault.RecordFault.TheVariants.{BadVersion, BadField}
-use Rattle.sv_record.specs.declared.version.Version.{Version}
-use Rattle.sv_record.specs.declared.version.Version.TheVariants.{One, Two}
+use Rattle.sv_record.proofs.Prelude.{RecordFault, BadVersion, BadField, Version, One, Two, ◌>>=◌, Reading, IsBytes, Gives, number_at, ended, Format}
 use Rattle.std.specs.Prelude.{◌↔◌, IfOk}
-use Rattle.sv_record.specs.Reading.{◌>>=◌, Reading, IsBytes, Gives, number_at, ended}
-use Rattle.sv_record.specs.Format.{Format}
 use Rattle.sv_record.specs.Version.{byte_of, version_at, IsSpelled, spelled, fits, whole}
 use Rattle.sv_record.proofs.FormatLaws.{AreBytes, are_bytes, bind_ok, held_ok, chosen, ok_is, Takes, Lawful, number_lawful, wide8}
 

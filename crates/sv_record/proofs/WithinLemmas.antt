@@ -4,24 +4,12 @@ use Rattle.std.specs.Prelude.{◌↔◌, All}
 use Rattle.std.specs.Int.{byte_len}
 use Rattle.std.specs.List.{AllByRecursion}
 use Rattle.std.proofs.lemmas.List.Elements.{All-from_recursion, recursion_from_All}
-use Rattle.sv_model.specs.Attributes.{attributes_size}
-use Rattle.sv_model.specs.declared.session.Session.{Session}
-use Rattle.sv_model.specs.declared.session.TheConstants.{VALUE_LIMIT, SESSION_LIMIT}
-use Rattle.sv_model.specs.declared.state.KeyState.{KeyState}
+use Rattle.sv_record.proofs.Prelude.{attributes_size, Session, VALUE_LIMIT, SESSION_LIMIT, KeyState, Change, Absent, Alive, Ended, Record, Packet, Want, Grant}
+use Rattle.sv_record.proofs.Prelude.{Ack, No, Version, One, Two, value_width, value_limit, session_limit, FitAll, Attribute, Before, at_first, behind, name}
+use Rattle.sv_record.proofs.Prelude.{value, attribute, attributes, session, change, commit, key_state}
 use Rattle.sv_model.specs.declared.state.KeyState.TheVariants as kept
-use Rattle.sv_model.specs.declared.record.Change.{Change}
-use Rattle.sv_model.specs.declared.record.Change.TheVariants.{Absent, Alive, Ended}
-use Rattle.sv_model.specs.declared.record.Record.{Record}
 use Rattle.sv_model.specs.declared.record.Record.TheVariants as rec
-use Rattle.sv_model.specs.declared.packet.Packet.{Packet}
-use Rattle.sv_model.specs.declared.packet.Packet.TheVariants.{Want, Grant, Ack, No}
 use Rattle.sv_model.proofs.AttributesLemmas.{attributes_size-cons}
-use Rattle.sv_record.specs.declared.version.Version.{Version}
-use Rattle.sv_record.specs.declared.version.Version.TheVariants.{One, Two}
-use Rattle.sv_record.specs.Version.{value_width, value_limit, session_limit}
-use Rattle.sv_record.specs.Format.{FitAll}
-use Rattle.sv_record.specs.Session.{Attribute, Before, at_first, behind, name, value, attribute, attributes, session}
-use Rattle.sv_record.specs.Record.{change, commit, key_state}
 use Rattle.sv_record.specs.Record as spec
 use Rattle.sv_record.specs.Packet as packet
 use Rattle.sv_record.specs.Within.{IsWithin, IsChangeWithin, IsStateWithin, IsRecordWithin, IsPacketWithin}

@@ -4,11 +4,8 @@ use Rattle.std.proofs.Common.{◌≡◌, ◌≤◌, ℕ, Result, Ok, Err, List, 
 use Rattle.std.proofs.lemmas.List.{take_at, length-append, take-take}
 use Rattle.std.specs.Int.{w16, to_be_bytes}
 use Rattle.std.specs.List.{flat_map}
-use Rattle.sv_record.specs.declared.version.Version.TheVariants.{Two}
-use Rattle.sv_record.specs.Format.{texts}
-use Rattle.sv_model.specs.declared.session.Session.{Session}
-use Rattle.sv_record.specs.Field.{long, signed, flag}
-use Rattle.sv_record.specs.Session.{Attribute, Before, at_first, behind, name, value, attribute, attributes, context, session}
+use Rattle.sv_record.proofs.Prelude.{Two, texts, Session, long, signed, flag, Attribute, Before, at_first, behind, name, value, attribute, attributes, context}
+use Rattle.sv_record.proofs.Prelude.{session}
 
 -- one text after the other
 pub then_text : (old mid new a rest : List ℕ) → mid ≡ old ++ a → new ≡ mid ++ rest → new ≡ old ++ (a ++ rest)

@@ -1,49 +1,25 @@
 -- Each step of a node alone goes side by side with the container: what the step commits may stand, and the node's sessions
 -- stay those of the container.
 use Rattle.std.proofs.Common.{◌≡◌, ◌≢◌, ℕ, ◌+◌, ◌<◌, ◌≤◌, Bool, true, false, cond, Option, Some, None, List, [], ◌∷◌, ◌++◌, length, refl, sym, ap, ◌∙◌, subst, ⊎_elim, arith}
+use Rattle.std.proofs.lemmas.Bool.{false_from_ne_true}
 use Rattle.std.specs.Prelude.{is_some, slice_get, slice_set, get_or, IfSome, ⊤}
 use Rattle.std.specs.Option.{option_to_list, option_map}
 use Rattle.std.specs.List.{filter_map, position_from}
 use Rattle.std.specs.FinMap.{get, insert, entries}
 use Rattle.std.proofs.Math.Seq.{take-length}
 use Rattle.std.proofs.lemmas.Option.{slice_get_cases, slice_get_within, same_Some}
-use Rattle.sv_model.specs.declared.key.Key.{Key}
-use Rattle.sv_model.specs.declared.key.Secret.{Secret}
-use Rattle.sv_model.specs.declared.key.Token.{Token}
-use Rattle.sv_model.specs.declared.key.Moment.{Moment}
-use Rattle.sv_model.specs.declared.request.Request.{Request}
-use Rattle.sv_model.specs.declared.session.Session.{Session}
-use Rattle.sv_model.specs.declared.packet.Packet.{Packet}
-use Rattle.sv_model.specs.declared.state.KeyState.{KeyState}
-use Rattle.sv_model.specs.declared.state.KeyState.TheVariants.{Active, Ended}
-use Rattle.sv_model.specs.declared.commit.Commit.{Commit}
-use Rattle.sv_model.specs.declared.commit.Commit.TheVariants.{Served}
-use Rattle.sv_model.specs.declared.outcome.Outcome.{Outcome}
-use Rattle.sv_model.specs.declared.outcome.Fate.TheVariants.{Untouched}
-use Rattle.sv_model.specs.declared.outcome.Birth.{Birth}
+use Rattle.sv_solo.proofs.Prelude.{Key, Secret, Token, Moment, Request, Session, Packet, KeyState, Active, Ended, Commit, Served, Outcome, Untouched, Birth}
+use Rattle.sv_solo.proofs.Prelude.{Input, Output, Refuse, MoveRefused, Cause, EngineMeaning, TouchesOnlyHanded, NamesKeys, is_expired, known, Node, session_in}
+use Rattle.sv_solo.proofs.Prelude.{Decision, idle, left, decided, on_packet, on_move, on_ask, own_key, keys_of, IsPlace, IsMade, if_active, fated_at}
+use Rattle.sv_solo.proofs.Prelude.{born_behind, alone, node_of, state_of, refusal_for, numbered, is_past, item_of, IsFit}
 use Rattle.sv_model.specs.declared.outcome.Birth.TheVariants.{Absent, Alive, Ended as BirthEnded}
-use Rattle.sv_model.specs.declared.input.Input.{Input}
 use Rattle.sv_model.specs.declared.input.Input.TheVariants.{Ask, Packet as Incoming, Poke, Tick, Move}
-use Rattle.sv_model.specs.declared.output.Output.{Output}
-use Rattle.sv_model.specs.declared.output.Output.TheVariants.{Refuse, MoveRefused}
-use Rattle.sv_model.specs.declared.output.Cause.{Cause}
-use Rattle.sv_model.specs.Engine.{EngineMeaning, TouchesOnlyHanded}
-use Rattle.sv_model.specs.Limits.{NamesKeys}
 use Rattle.sv_model.specs.Keys.{same_key, set_key}
 use Rattle.sv_model.specs.Container.{Store, always, nothing_stored, after, stored, fated, born, made_with, outcome_of, handed_if, IsLawful, IsNewKey, IsExcused, MayStand, expiry_events, store_with}
-use Rattle.sv_model.specs.Session.{is_expired}
-use Rattle.sv_model.specs.NodeState.{known, Node, session_in}
-use Rattle.sv_model.specs.Decision.{Decision, idle, left}
-use Rattle.sv_model.specs.Node.{decided}
-use Rattle.sv_model.specs.Migration.{on_packet, on_move}
 use Rattle.sv_model.specs.Time.{on_tick, first_over, is_over, expire, grant_again}
-use Rattle.sv_model.specs.Waiting.{on_ask}
 use Rattle.sv_model.specs.Serving.{held_in, answer_of, answered, answered_unless, no_birth, fresh_of, token_of, born_keys, kept_with}
 use Rattle.sv_model.proofs.KeyLemmas.{keys_tell}
-use Rattle.sv_solo.specs.Table.{own_key, keys_of, IsPlace, IsMade, if_active, fated_at, born_behind, alone, node_of, state_of, refusal_for, numbered, is_past}
-use Rattle.sv_model.specs.Alone.{item_of}
 use Rattle.sv_model.specs.Trace.{asked_by, reply_in, refusal_in, served_of, times}
-use Rattle.sv_model.specs.OneContainer.{IsFit}
 use Rattle.sv_model.proofs.KeptLemmas.{Agree, set_agrees, held_agrees, handed_held, fated_agrees, born_agrees}
 use Rattle.sv_solo.proofs.SoloLemmas.{packets, moves, ended_node}
 use Rattle.sv_solo.proofs.TableLemmas.{IsForeign, key_cases, get_own, is_place, held_unmade, fates, births, length_fated, kept, asks, fresh_is, few_born, put_own, no_grants, entries_are, over}
@@ -118,12 +94,8 @@ next_unknown xs = get_own (length xs) xs ∙ ap (option_map state_of) (⊎_elim
     (λ (past : (length xs ≤ length xs) × (slice_get xs (length xs) ≡ None)). past.1)
     (slice_get_cases xs (length xs)).1)
 
-false_of : (b : Bool) → (b ≡ true → ⊥) → b ≡ false
-false_of true never = absurd (never refl)
-false_of false never = refl
-
 not_made : (xs : List (Option Session)) (store : Store) → Holds xs store → store.made (own_key (length xs + 1)) ≡ false
-not_made xs store h = false_of (store.made (own_key (length xs + 1))) (λ is.
+not_made xs store h = false_from_ne_true (store.made (own_key (length xs + 1))) (λ is.
     let at : (i : ℕ) × (i < length xs) × (own_key (length xs + 1) ≡ own_key (i + 1)) = h.made (own_key (length xs + 1)) is in
     let same : length xs + 1 ≡ at.0 + 1 = ap (λ (q : Key). q.serial) at.2 in
     let less : at.0 < length xs = at.1 in

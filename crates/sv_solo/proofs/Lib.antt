@@ -1,3 +1,4 @@
+mod Prelude
 mod UnreadLemmas
 mod ServeLemmas
 pub mod QuietLemmas

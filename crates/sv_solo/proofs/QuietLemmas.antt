@@ -1,7 +1,6 @@
 -- An engine whose listeners note nothing.
 use Rattle.std.proofs.Common.{◌≡◌, ℕ, List, [], ◌∷◌, refl, sym, subst}
-use Rattle.sv_model.specs.Engine.{EngineMeaning, heard_all}
-use Rattle.sv_model.specs.declared.event.Told.{Told}
+use Rattle.sv_solo.proofs.Prelude.{EngineMeaning, heard_all, Told}
 
 pub notes_nothing : (m : EngineMeaning) → ((heard : List (List ℕ)) (t : Told) → m.hear heard t ≡ heard) → (heard : List (List ℕ)) (ts : List Told)
     → heard_all m heard ts ≡ heard

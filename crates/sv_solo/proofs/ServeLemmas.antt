@@ -1,21 +1,11 @@
 -- What a call for a connection leads to, put together.
-use Rattle.std.proofs.Common.{◌≡◌, ℕ, List, subst, Option, Some, None, Result, inl, inr, [], refl, sym, ap, ◌∙◌}
+use Rattle.std.proofs.Common.{◌≡◌, ℕ, List, subst, Option, Result, inl, inr, [], sym, ap, ◌∙◌}
 use Rattle.std.specs.Prelude.{Bool, true, false}
-use Rattle.sv_model.specs.declared.key.Moment.{Moment}
-use Rattle.sv_model.specs.declared.request.Request.{Request}
-use Rattle.sv_model.specs.declared.response.Response.{Response}
-use Rattle.sv_model.specs.declared.input.Input.{Input}
-use Rattle.sv_model.specs.declared.input.Input.TheVariants.{Ask}
-use Rattle.sv_model.specs.declared.output.Output.{Output}
-use Rattle.sv_model.specs.declared.site.StepFault.{StepFault}
-use Rattle.sv_model.specs.Page.{plain_page}
+use Rattle.sv_solo.proofs.Prelude.{Moment, Request, Response, Input, Ask, Output, StepFault, RequestFault, Read, Target, GivesRequest, IsRefused}
 use Rattle.sv_message.specs.declared.request.RawRequest.{RawRequest}
 use Rattle.sv_target.specs.declared.target.Target.{Target as TargetValue}
-use Rattle.sv_connection.specs.declared.outcome.RequestFault.{RequestFault}
-use Rattle.sv_connection.specs.declared.outcome.RequestFault.TheVariants.{Read, Target}
 use Rattle.sv_connection.specs.declared.outcome.Outcome.{Outcome}
-use Rattle.sv_connection.specs.declared.outcome.Outcome.TheVariants.{Answered, Refused}
-use Rattle.sv_connection.specs.Receive.{GivesRequest, IsRefused}
+use Rattle.sv_connection.specs.declared.outcome.Outcome.TheVariants.{Answered}
 use Rattle.sv_connection.specs.Request.{request_of}
 use Rattle.sv_connection.specs.Speak.{IsLateAnswer, IsPage, IsSaid, IsStarved, status_of}
 use Rattle.sv_solo.specs.declared.answer.Manner.{Manner}
@@ -100,8 +90,3 @@ pub said_unparked : (response : Response) (now : ℕ) (done : Outcome) (wo wn : 
 said_unparked response now done wo wn closed outcome none (inl (text, is, inl h)) = ap is_parked h.0 ∙ none
 said_unparked response now done wo wn closed outcome none (inl (text, is, inr h)) = ap is_parked h.0
 said_unparked response now done wo wn closed outcome none (inr h) = starved_unparked wo wn closed outcome h
-
-pub page_unparked : (status : Option ℕ) (head_only : Bool) (now : ℕ) (fault : RequestFault) (wo wn : Option (List ℕ)) (closed : Bool) (outcome : Outcome)
-    → IsPage status head_only now fault wo wn closed outcome → is_parked outcome ≡ false
-page_unparked (Some status) head_only now fault wo wn closed outcome h = said_unparked (plain_page status [] head_only true) now (Refused fault) wo wn closed outcome refl h
-page_unparked None head_only now fault wo wn closed outcome h = starved_unparked wo wn closed outcome h

@@ -7,35 +7,18 @@ use Rattle.std.proofs.lemmas.Option.{slice_get_within}
 use Rattle.std.specs.FinMap.{insert, entries}
 use Rattle.std.specs.List.{filter_map, position_from}
 use Rattle.std.proofs.lemmas.Iterator.Adapters.{position_from-zero}
-use Rattle.sv_model.specs.declared.key.Key.{Key}
-use Rattle.sv_model.specs.declared.key.Secret.{Secret}
-use Rattle.sv_model.specs.declared.key.Moment.{Moment}
-use Rattle.sv_model.specs.declared.request.Request.{Request}
-use Rattle.sv_model.specs.declared.session.Session.{Session}
-use Rattle.sv_model.specs.declared.state.KeyState.{KeyState}
-use Rattle.sv_model.specs.declared.state.KeyState.TheVariants.{Active, Sent, Gone, Ended}
-use Rattle.sv_model.specs.declared.outcome.Outcome.{Outcome}
-use Rattle.sv_model.specs.declared.outcome.Fate.{Fate}
-use Rattle.sv_model.specs.declared.outcome.Birth.{Birth}
-use Rattle.sv_model.specs.declared.event.Told.{Told}
-use Rattle.sv_model.specs.declared.packet.Packet.{Packet}
-use Rattle.sv_model.specs.declared.output.Output.{Output}
+use Rattle.sv_solo.proofs.Prelude.{Key, Secret, Moment, Request, Session, KeyState, Active, Sent, Gone, Ended, Outcome, Fate, Birth, Told, Packet, Output}
+use Rattle.sv_solo.proofs.Prelude.{Cause, EngineMeaning, heard_all, held_in, no_birth, answer_of, answered_unless, kept_with, on_ask, on_tick, expire}
+use Rattle.sv_solo.proofs.Prelude.{first_over, grant_again, idle, Decision, last_number, Node}
 use Rattle.sv_model.specs.declared.output.Output.TheVariants.{Answer, Refuse, Moved, MoveRefused}
 use Rattle.sv_model.specs.declared.output.MoveRefusal.TheVariants.{BadPeer, EpochsSpent}
-use Rattle.sv_model.specs.declared.output.Cause.{Cause}
-use Rattle.sv_model.specs.Engine.{EngineMeaning, heard_all}
-use Rattle.sv_model.specs.Serving.{held_in, no_birth, answer_of, answered_unless, kept_with}
-use Rattle.sv_model.specs.Waiting.{on_ask}
-use Rattle.sv_model.specs.Time.{on_tick, expire, first_over, grant_again}
 use Rattle.sv_model.specs.Migration.{on_move, on_packet, on_ours, sender, addressee, move_refused, hands_over}
-use Rattle.sv_model.specs.Decision.{idle, Decision}
-use Rattle.sv_model.specs.NodeState.{last_number, Node}
 use Rattle.sv_model.specs.Step.{IsStep, told}
 use Rattle.sv_solo.specs.Table.{own_key, numbered, told_end, keys_of, IsPlace, fated_at, born_behind, is_past, without_at, end_at, alone, node_of, refusal_for}
 use Rattle.sv_solo.specs.Solo.{view_at}
 use Rattle.std.proofs.Common.{arith}
-use Rattle.sv_solo.proofs.TableLemmas.{kept, asks, fresh_is, or_right, over, no_grants, put_own, entries_are}
-use Rattle.std.proofs.lemmas.Bool.{le-leb, and_right}
+use Rattle.sv_solo.proofs.TableLemmas.{kept, asks, fresh_is, over, no_grants, put_own, entries_are}
+use Rattle.std.proofs.lemmas.Bool.{le-leb, and_right, or_right}
 use Rattle.std.proofs.lemmas.Bool.Decides.{leb_tells}
 
 -- the request is served by this outcome

@@ -7,32 +7,20 @@ use Rattle.std.specs.FinMap.Entries.{below_all}
 use Rattle.std.specs.FinMap.{get, insert, len, entries, find, is_sorted, same_map, get-insert, get-from_sorted, entries-from_sorted, len-entries}
 use Rattle.std.specs.Ordering.{is_lt}
 use Rattle.std.specs.Cmp.{nat_cmp_is}
-use Rattle.std.proofs.lemmas.Bool.{cases_eq, ne_eqb, le-leb, leb-false}
+use Rattle.std.proofs.lemmas.Bool.{cases_eq, ne_eqb, le-leb, leb-false, or_right}
 use Rattle.std.proofs.lemmas.Bool.Decides.{leb_tells}
 use Rattle.std.proofs.lemmas.List.{length-append, length-set}
 use Rattle.std.proofs.lemmas.Option.{slice_get_past, slice_get_cases}
-use Rattle.sv_model.specs.declared.key.Key.{Key}
-use Rattle.sv_model.specs.declared.session.Session.{Session}
-use Rattle.sv_model.specs.declared.state.KeyState.{KeyState}
+use Rattle.sv_solo.proofs.Prelude.{Key, Session, KeyState, Secret, Moment, Request, Active, Sent, Gone, Ended, Outcome, Fate, Birth, Cause, EngineMeaning}
+use Rattle.sv_solo.proofs.Prelude.{first_over, grant_again, is_expired}
 use Rattle.sv_model.specs.Keys.{key_cmp, same_key}
-use Rattle.sv_model.specs.declared.key.Secret.{Secret}
-use Rattle.sv_model.specs.declared.key.Moment.{Moment}
-use Rattle.sv_model.specs.declared.request.Request.{Request}
-use Rattle.sv_model.specs.declared.state.KeyState.TheVariants.{Active, Sent, Gone, Ended}
-use Rattle.sv_model.specs.declared.outcome.Outcome.{Outcome}
-use Rattle.sv_model.specs.declared.outcome.Fate.{Fate}
 use Rattle.sv_model.specs.declared.outcome.Fate.TheVariants.{Untouched, Kept, Ended as FateEnded}
-use Rattle.sv_model.specs.declared.outcome.Birth.{Birth}
 use Rattle.sv_model.specs.declared.outcome.Birth.TheVariants.{Absent, Alive, Ended as BirthEnded}
-use Rattle.sv_model.specs.declared.output.Cause.{Cause}
 use Rattle.sv_model.specs.declared.output.Cause.TheVariants.{TableFull, SerialsSpent}
-use Rattle.sv_model.specs.Engine.{EngineMeaning}
 use Rattle.sv_model.specs.NodeState.{known, Keys, session_in, is_settled, is_dead, is_unmade, last_number}
 use Rattle.sv_model.proofs.KnownLemmas.{plainly_known}
 use Rattle.sv_model.specs.Serving.{held_in, kept_at, ended_at, fated_keys, born_keys, next_with, kept_with, is_birth, no_birth, fresh_of, served}
 use Rattle.sv_model.specs.Waiting.{on_ask, waits}
-use Rattle.sv_model.specs.Time.{first_over, grant_again}
-use Rattle.sv_model.specs.Session.{is_expired}
 use Rattle.std.specs.List.{filter_map, position_from}
 use Rattle.sv_model.proofs.KeyLemmas.{keys_total, exact_keys, keys_tell}
 use Rattle.sv_solo.specs.Table.{own_key, state_of, numbered, keys_of, IsMade, IsPlace, IsAt, active_in, if_active, fated_at, born_behind, is_past, alone, node_of}
@@ -291,11 +279,6 @@ settled : (x : Option Session) → is_settled (Some (state_of x)) ≡ true
 settled None = refl
 settled (Some s) = refl
 
--- each request for a key that can be named is served at once
-pub or_right : (a b : Bool) → b ≡ true → (a || b) ≡ true
-or_right true b is = refl
-or_right false b is = is
-
 foreign_home : (k : Key) → 0 < k.serial → IsForeign k → 1 ≤ k.home
 foreign_home k some foreign = ⊎_elim
     (λ (z : k.home ≡ 0). ⊎_elim
@@ -426,6 +409,3 @@ no_cause false = refl
 pub birth_allowed : (xs : List (Option Session)) (b : Birth) → length xs ≤ 65_536 → length xs < 65_536 → None ≡ no_birth alone (node_of xs).durable b
 birth_allowed xs b few less =
     sym (room xs b few ∙ ap (λ t. cond (is_birth b) (cond t (Some TableFull) None) None) (not_full (length xs) less (leb_tells 65_536 (length xs))) ∙ no_cause (is_birth b))
-
-pub no_birth_made : (xs : List (Option Session)) (b : Birth) → length xs ≤ 65_536 → false ≡ is_birth b → None ≡ no_birth alone (node_of xs).durable b
-no_birth_made xs b few none = sym (room xs b few ∙ ap (λ t. cond t (cond (nat_le 65_536 (length xs)) (Some TableFull) None) None) (sym none))

@@ -5,25 +5,11 @@ use Rattle.std.specs.Prelude.{IfSome, Result, Ok, Err, ◌&&◌}
 use Rattle.std.proofs.lemmas.List.{length-append, append-nil, map-append}
 use Rattle.std.proofs.lemmas.Grind.{flat_map-append}
 use Rattle.std.proofs.lemmas.Bool.{eq-eqb}
-use Rattle.sv_model.specs.declared.key.Key.{Key}
-use Rattle.sv_model.specs.declared.key.Token.{Token}
-use Rattle.sv_model.specs.declared.key.Moment.{Moment}
-use Rattle.sv_model.specs.declared.response.Response.{Response}
-use Rattle.sv_model.specs.declared.session.Session.{Session}
-use Rattle.sv_model.specs.declared.commit.Commit.{Commit}
+use Rattle.sv_solo.proofs.Prelude.{Key, Token, Moment, Response, Session, Commit, Told, Input, Output, StepFault, EngineMeaning, TouchesOnlyHanded, heard_all}
+use Rattle.sv_solo.proofs.Prelude.{NamesKeys, Node, session_in, Decision, left, decided, alone, node_of}
 use Rattle.sv_model.specs.declared.commit.Commit.TheVariants.{Served, Expired}
-use Rattle.sv_model.specs.declared.event.Told.{Told}
-use Rattle.sv_model.specs.declared.input.Input.{Input}
-use Rattle.sv_model.specs.declared.output.Output.{Output}
-use Rattle.sv_model.specs.declared.site.StepFault.{StepFault}
-use Rattle.sv_model.specs.Engine.{EngineMeaning, TouchesOnlyHanded, heard_all}
-use Rattle.sv_model.specs.Limits.{NamesKeys}
 use Rattle.sv_model.specs.Container.{Meanings, always, Store, nothing_stored, committed, after, IsLawful, AreLawful, MayStand, AllMayStand, store_with, replies_with}
-use Rattle.sv_model.specs.NodeState.{Node, session_in}
-use Rattle.sv_model.specs.Decision.{Decision, left}
-use Rattle.sv_model.specs.Node.{decided}
 use Rattle.sv_model.specs.Step.{View, Steps, told, with_mark}
-use Rattle.sv_solo.specs.Table.{alone, node_of}
 use Rattle.sv_model.specs.Alone.{Call, Leads, item_of, item_by, node_by, trace_of}
 use Rattle.sv_model.specs.Trace.{Item, told_of, commits_of, asked_of, replies_of, refused_of, served_by, served_of, same_token, times, is_of, arrival_behind, tokens_in, AreDistinct}
 use Rattle.sv_model.specs.OneContainer.{active_at, IsOneContainer, IsAcknowledged, IsFit, AreFit, IsServedOnce}

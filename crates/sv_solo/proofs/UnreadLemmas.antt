@@ -1,20 +1,17 @@
 -- What stands at the front of the unread bytes, however many of them are held.
-use Rattle.std.proofs.Common.{◌≡◌, ℕ, List, [], ◌++◌, append-nil, append_assoc, ap, sym, refl, ◌∙◌, subst, inl, inr, Option, Some, None, Bool}
+use Rattle.std.proofs.Common.{◌≡◌, ℕ, List, [], ◌++◌, append-nil, append_assoc, ap, sym, ◌∙◌, subst, inl, inr, Option, Some, None, Bool}
+use Rattle.std.proofs.KnownBytes.{Keeps-trans}
 use Rattle.std.specs.Prelude.{false, true, IfSome}
 use Rattle.std.specs.Io.KnownBytes.{Keeps, Consumes, IsAtEnd, prepend_known}
-use Rattle.sv_model.specs.declared.request.Request.{Request}
+use Rattle.sv_solo.proofs.Prelude.{Request, RequestFault, Read, Target}
 use Rattle.sv_message.specs.Fault.{IsFaultAt, HasNoMessage}
 use Rattle.sv_message.specs.declared.fault.ReadFault.{ReadFault}
 use Rattle.sv_message.specs.declared.fault.ReadFault.TheVariants.{BadHead, HeadTooLong, BadHost, BadFraming, BodyTooLong, Coding, Expectation, Memory, Closed as ReaderClosed}
 use Rattle.sv_message.proofs.FaultLemmas.{fault_longer}
-use Rattle.sv_connection.specs.declared.outcome.RequestFault.{RequestFault}
-use Rattle.sv_connection.specs.declared.outcome.RequestFault.TheVariants.{Read, Target}
 use Rattle.sv_connection.specs.declared.received.Received.{Received}
 use Rattle.sv_connection.specs.declared.received.Received.TheVariants.{Request as Given, Refused, More, Closed}
 use Rattle.sv_connection.specs.Receive.{GivesRequest, IsRefused, Receives, StandsAt, stand}
-use Rattle.sv_solo.specs.declared.reading.Arrived.{Arrived}
-use Rattle.sv_solo.specs.declared.reading.Arrived.TheVariants.{Request as Asked, Refused as Faulty, End, Broken}
-use Rattle.sv_solo.specs.Reading.{Arrives, Ends, Hears}
+use Rattle.sv_solo.specs.Reading.{Ends, Hears}
 
 -- ---- bytes that were kept
 
@@ -23,13 +20,6 @@ moved : (P : Option (List ℕ) → Type 0) → P None → (v u : Option (List �
 moved P none None u kept p = none
 moved P none (Some x) None kept p = elim kept [ ]
 moved P none (Some x) (Some y) kept p = subst (λ (t : List ℕ). P (Some t)) kept p
-
-pub keeps_same : (u : Option (List ℕ)) → Keeps u u
-keeps_same None = tt
-keeps_same (Some x) = refl
-
-pub keeps_on : (a b c : Option (List ℕ)) → Keeps a b → Keeps b c → Keeps a c
-keeps_on a b c first later = moved (λ (w : Option (List ℕ)). Keeps w c) tt a b first later
 
 stands_behind : (v u : Option (List ℕ)) (f : ReadFault) → Keeps v u → StandsAt u f → StandsAt v f
 stands_behind v u BadHead kept k = moved (λ (w : Option (List ℕ)). StandsAt w BadHead) tt v u kept k
@@ -67,12 +57,6 @@ refused_behind v u n (Target fault) head_only kept g = record {
 
 pub none_behind : (v u : Option (List ℕ)) → Keeps v u → IfSome u HasNoMessage → IfSome v HasNoMessage
 none_behind v u kept none = moved (λ (w : Option (List ℕ)). IfSome w HasNoMessage) tt v u kept none
-
-pub arrives_behind : (single : Bool) (v u n : Option (List ℕ)) (closed : Bool) (r : Arrived) → Keeps v u → Arrives single u n closed r → Arrives single v n closed r
-arrives_behind single v u n closed (Asked request) kept k = (k.0, request_behind single v u n request kept k.1)
-arrives_behind single v u n closed (Faulty fault head_only) kept k = (k.0, refused_behind v u n fault head_only kept k.1)
-arrives_behind single v u n closed End kept k = (k.0, none_behind v u kept k.1)
-arrives_behind single v u n closed Broken kept k = k
 
 -- ---- bytes that are still to come after all that have come
 
@@ -137,10 +121,6 @@ joined held piece None rn took = tt
 joined held piece (Some x) None took = elim took [ ]
 joined held piece (Some x) (Some y) took = append_assoc held piece y ∙ ap (λ (t : List ℕ). held ++ t) (sym took)
 
-pub took_none : (u : Option (List ℕ)) → Consumes u u []
-took_none None = tt
-took_none (Some x) = refl
-
 pub lifted : (single : Bool) (held piece left : List ℕ) (ro rn : Option (List ℕ)) (was now : Bool) (r : Received) → was ≡ false → Consumes ro rn piece
     → Receives single (stand (Some (held ++ piece)) was) (stand (Some (left ++ [])) now) r → Hears single (prepend_known held ro) (prepend_known left rn) now (Some r)
 lifted single held piece left ro rn was now (Given request) still_open took k =
@@ -148,7 +128,7 @@ lifted single held piece left ro rn was now (Given request) still_open took k =
 lifted single held piece left ro rn was now (Refused fault head_only) still_open took k =
     (k.1, refused_behind _ _ _ fault head_only (joined held piece ro rn took) (refused_front (held ++ piece) left rn fault head_only k.2))
 lifted single held piece left ro rn was now More still_open took k =
-    (k.1, keeps_on _ _ _ (joined held piece ro rn took) (keeps_front (held ++ piece) left rn k.3))
+    (k.1, Keeps-trans _ _ _ (joined held piece ro rn took) (keeps_front (held ++ piece) left rn k.3))
 lifted single held piece left ro rn was now Closed still_open took k = absurd (let e : true ≡ false = sym k.0 ∙ still_open in cc)
 
 pub ended : (single : Bool) (held left : List ℕ) (ro rn : Option (List ℕ)) (was now : Bool) (r : Received) → was ≡ false → Consumes ro rn [] → IsAtEnd rn

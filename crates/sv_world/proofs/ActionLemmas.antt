@@ -1,29 +1,16 @@
 -- An event that has no fault is the task that it asks for.
-use Rattle.std.proofs.Common.{◌≡◌, ℕ, ◌+◌, ◌<◌, ◌&&◌, Bool, true, false, cond, Option, Some, None, [], ◌∷◌, ◌++◌, refl, sym, ◌∙◌, subst, append-nil}
-use Rattle.std.specs.Prelude.{not, is_some, IsSome}
-use Rattle.std.specs.Option.{option_map}
-use Rattle.std.proofs.lemmas.Bool.{and_parts, ltb-true, cond-true}
-use Rattle.std.proofs.lemmas.Option.{same_Some}
-use Rattle.sv_model.specs.declared.record.Record.{Record}
-use Rattle.sv_model.specs.declared.key.Token.{Token}
-use Rattle.sv_model.specs.Container.{Meanings}
-use Rattle.sv_model.specs.declared.node.Setting.{Setting}
-use Rattle.sv_model.specs.NodeState.{Durable}
-use Rattle.sv_model.specs.Outputs.{sends_in}
-use Rattle.sv_model.specs.Trace.{asked_of}
-use Rattle.sv_world.specs.declared.call.Call.{Call}
-use Rattle.sv_world.specs.declared.event.WorldEvent.{WorldEvent}
-use Rattle.sv_world.specs.declared.event.WorldEvent.TheVariants.{Ask, Deliver, Poke, Tick, Move, Crash, Torn, Silent, Restart, TornRestart}
-use Rattle.sv_world.specs.declared.fault.WorldFault.TheVariants.{NoPacket}
-use Rattle.sv_world.specs.declared.action.Action.{Action}
-use Rattle.sv_world.specs.declared.task.Task.{Task}
+use Rattle.sv_world.proofs.Prelude.{◌≡◌, ℕ, ◌<◌, Bool, true, false, cond, Option, Some, None, [], ◌∷◌, ◌++◌, refl, sym, ◌∙◌, subst, append-nil, not, is_some}
+use Rattle.sv_world.proofs.Prelude.{IsSome, option_map, and_parts, ltb-true, cond-true, same_Some, Record, Token, Meanings, Setting, Durable, sends_in}
+use Rattle.sv_world.proofs.Prelude.{asked_of, Call, WorldEvent, Ask, Deliver, Poke, Tick, Crash, Torn, Silent, Restart, TornRestart, NoPacket, Action, Task}
+use Rattle.sv_world.proofs.Prelude.{Done, deed, wants_up, number_for, line_of, quiet_at, heading_at, heading_by, halted, booted, start_by, call_fault}
+use Rattle.sv_world.proofs.Prelude.{start_fault, fault_of, whole_action, torn_action, silent_action, action_of, may_come, Cluster, Member, World, set_member}
+use Rattle.sv_world.proofs.Prelude.{setting_of, durable_at, stopped, started, items, call_of, decision, token_of_call, is_unused, is_there, is_ready, is_spent}
+use Rattle.sv_world.proofs.Prelude.{whole, torn, silent, becomes, halt, boots, steps, tears, silences, starts, happens}
+use Rattle.std.proofs.Common.{◌+◌, ◌&&◌}
+use Rattle.sv_world.specs.declared.event.WorldEvent.TheVariants.{Move}
 use Rattle.sv_world.specs.declared.task.Task.TheVariants as task
-use Rattle.sv_world.specs.Deed.{Done, deed, wants_up, number_for, line_of, quiet_at, heading_at, heading_by, halted, booted, start_by}
-use Rattle.sv_world.specs.Faults.{call_fault, start_fault, fault_of}
-use Rattle.sv_world.specs.Action.{whole_action, torn_action, silent_action, action_of}
-use Rattle.sv_world.specs.Sent.{may_come}
-use Rattle.sv_world.specs.World.{Cluster, Member, World, set_member, setting_of, durable_at, stopped, started, items, call_of, decision, token_of_call, is_unused, is_there, is_ready, is_spent, whole, torn, silent, becomes, halt, boots, steps, tears, silences, starts, happens}
 use Rattle.sv_world.proofs.FaultLemmas.{step_goes, start_goes, stop_goes}
+use Rattle.sv_world.proofs.Keys.{not_true}
 
 -- a world in which this was done at a node
 abbrev pub done_by : World → WorldEvent → ℕ → Done → World
@@ -39,10 +26,6 @@ pub record Goes (c : Cluster) (w : World) (e : WorldEvent) (o : Action) : Type 0
   pub happens : (m : Meanings) → happens m c w e ≡ done_at m c w e o
   pub there : o.node < c.nodes o.node (number_for (durable_at w o.node) o.task)
   pub up : (w.members o.node).up ≡ wants_up o.task
-
-not_true : (b : Bool) → not b ≡ true → b ≡ false
-not_true true h = absurd (let no : false ≡ true = h in cc)
-not_true false h = refl
 
 module _ (c : Cluster) (w : World) (e : WorldEvent) where
   split : (n : ℕ) (b : Bool) (x y : World) (p q : Done) → x ≡ done_by w e n p → y ≡ done_by w e n q → cond b x y ≡ done_by w e n (cond b p q)
@@ -138,10 +121,6 @@ module _ (c : Cluster) (w : World) where
   some_whole : (call : Option Call) → call_fault c w call ≡ None → IsSome (option_map whole_action call)
   some_whole None h = absurd (let no : Some NoPacket ≡ None = h in cc)
   some_whole (Some call) h = refl
-
-  some_torn : (kept : Bool) (call : Option Call) → call_fault c w call ≡ None → IsSome (option_map (torn_action kept) call)
-  some_torn kept None h = absurd (let no : Some NoPacket ≡ None = h in cc)
-  some_torn kept (Some call) h = refl
 
   pub asks : (e : WorldEvent) → fault_of c w e ≡ None → IsSome (action_of w.packets e)
   asks (Ask n moment token r) h = refl

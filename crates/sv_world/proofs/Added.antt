@@ -1,16 +1,8 @@
 -- A node that runs was told of every node that has made a session, where all starts are told of as many nodes.
-use Rattle.std.proofs.Common.{◌≡◌, ℕ, ◌+◌, ◌<◌, ◌≤◌, true, List, [], ◌∷◌, arith, refl, ap, ◌∙◌, inl, inr, ⊎_elim}
-use Rattle.std.proofs.lemmas.Bool.{cond_both, cases_lt}
-use Rattle.sv_model.specs.declared.node.Setting.{Setting}
-use Rattle.sv_model.specs.declared.record.Record.TheVariants.{Boot, Forgets}
-use Rattle.sv_model.specs.NodeState.{Durable}
-use Rattle.sv_model.specs.Replay.{boot_record, applied}
-use Rattle.sv_model.specs.Decision.{left}
-use Rattle.sv_model.specs.Container.{Meanings, AllTouchOnlyHanded}
-use Rattle.sv_world.specs.declared.event.WorldEvent.{WorldEvent}
-use Rattle.sv_world.specs.World.{Cluster, Member, World, durable_at, set_member, stopped, setting_of, decision, happens, nothing_happened, KnowsAll, AlwaysKnows}
-use Rattle.sv_world.specs.Life.{session_of}
-use Rattle.sv_world.specs.Sane.{IsUnmade}
+use Rattle.sv_world.proofs.Prelude.{◌≡◌, ℕ, ◌<◌, ◌≤◌, true, List, [], ◌∷◌, arith, refl, ap, ◌∙◌, inl, inr, ⊎_elim, cond_both, cases_lt, Setting, Boot, Forgets}
+use Rattle.sv_world.proofs.Prelude.{Durable, boot_record, applied, left, Meanings, AllTouchOnlyHanded, WorldEvent, Cluster, Member, World, durable_at}
+use Rattle.sv_world.proofs.Prelude.{set_member, stopped, setting_of, decision, happens, nothing_happened, KnowsAll, AlwaysKnows, session_of, IsUnmade}
+use Rattle.std.proofs.Common.{◌+◌}
 use Rattle.sv_world.proofs.OneKey.{is_unborn}
 use Rattle.sv_world.proofs.Runs.{Inv, disks_of, happens_keeps, at_first}
 use Rattle.sv_world.proofs.Events.{behind}

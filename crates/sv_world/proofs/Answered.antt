@@ -1,21 +1,10 @@
 -- Each answer is of one commit, that of its own line.
-use Rattle.std.proofs.Common.{◌≡◌, ℕ, ◌≤◌, Bool, true, false, cond, Option, Some, None, List, [], ◌∷◌, ◌++◌, length, arith, refl, sym, ap, ◌∙◌, subst, ⊎_elim, append_assoc, append-nil}
-use Rattle.std.specs.Option.{option_to_list}
-use Rattle.std.proofs.lemmas.List.{map-append}
-use Rattle.std.proofs.lemmas.List.Concat.{flat_map-append}
-use Rattle.sv_model.specs.declared.key.Key.{Key}
-use Rattle.sv_model.specs.declared.key.Secret.{Secret}
-use Rattle.sv_model.specs.declared.key.Token.{Token}
-use Rattle.sv_model.specs.declared.request.Request.{Request}
-use Rattle.sv_model.specs.declared.response.Response.{Response}
-use Rattle.sv_model.specs.declared.commit.Commit.{Commit}
-use Rattle.sv_model.specs.declared.commit.Commit.TheVariants.{Served, Expired}
-use Rattle.sv_model.specs.Container.{Meanings, after, reply_of, MayStand, AllMayStand, store_with, replies_with, Store, nothing_stored}
-use Rattle.sv_model.specs.Trace.{Item, commits_of, served_of, served_by, same_token, times, arrival_behind}
-use Rattle.sv_model.specs.Membership.{In}
-use Rattle.sv_world.specs.declared.line.Line.{Line}
-use Rattle.sv_world.specs.World.{World, items, commits_in, item_at}
-use Rattle.sv_world.specs.Headline.{AreLines, IsUnanswered, IsAnswered, IsAnswer, AreAnswers}
+use Rattle.sv_world.proofs.Prelude.{◌≡◌, ℕ, ◌≤◌, Bool, true, false, cond, Option, Some, None, List, [], ◌∷◌, ◌++◌, arith, refl, sym, ap, ◌∙◌, subst, ⊎_elim}
+use Rattle.sv_world.proofs.Prelude.{append_assoc, append-nil, option_to_list, map-append, flat_map-append, Key, Secret, Token, Request, Response, Commit}
+use Rattle.sv_world.proofs.Prelude.{Served, Expired, Meanings, after, reply_of, MayStand, AllMayStand, store_with, replies_with, Store, nothing_stored, Item}
+use Rattle.sv_world.proofs.Prelude.{commits_of, served_of, served_by, same_token, times, arrival_behind, In, Line, World, items, commits_in, item_at, AreLines}
+use Rattle.sv_world.proofs.Prelude.{IsUnanswered, IsAnswered, IsAnswer, AreAnswers}
+use Rattle.std.proofs.Common.{length}
 use Rattle.sv_world.proofs.Arrivals.{one_if, token_self, times_more}
 use Rattle.sv_world.proofs.Told.{after_one}
 

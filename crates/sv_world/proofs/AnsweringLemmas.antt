@@ -1,21 +1,10 @@
 -- Which node can answer for a session, and what each step makes of that: it can until it hands the session over.
-use Rattle.std.proofs.Common.{◌≡◌, ◌≢◌, ◌⊎◌, ℕ, ◌+◌, ◌<◌, ◌≤◌, ◌==◌, ◌&&◌, Bool, true, false, Option, Some, None, arith, refl, sym, ap, ◌∙◌, subst, inl, inr, ⊎_elim, eq-eqb}
-use Rattle.std.specs.Prelude.{nat_lt, nat_le}
-use Rattle.std.specs.FinMap.{get}
-use Rattle.std.proofs.lemmas.Bool.{cases_eq, cases_lt, and_from, lt-ltb, le-leb, true≢false}
-use Rattle.sv_model.specs.declared.key.Key.{Key}
-use Rattle.sv_model.specs.declared.session.Session.{Session}
-use Rattle.sv_model.specs.declared.state.KeyState.{KeyState}
-use Rattle.sv_model.specs.declared.state.KeyState.TheVariants.{Active, Sent, Gone, Ended}
-use Rattle.sv_model.specs.declared.packet.Packet.TheVariants.{Grant}
-use Rattle.sv_model.specs.Container.{Meanings, AllTouchOnlyHanded}
-use Rattle.sv_model.specs.NodeState.{last_number, epoch_in, is_own, was_given, known_by, is_settled, is_unmade}
-use Rattle.sv_model.specs.Membership.{In}
-use Rattle.sv_world.specs.declared.event.WorldEvent.{WorldEvent}
-use Rattle.sv_world.specs.Headline.{states}
-use Rattle.sv_world.specs.Life.{Phase, Unborn, Here, Away, Over, Stands, IsBelow, IsBehind}
-use Rattle.sv_world.specs.World.{Cluster, World, durable_at, happens}
-use Rattle.sv_world.specs.Progress.{IsStep, setting_at, AllRun, IsOff, IsOnItsWay}
+use Rattle.sv_world.proofs.Prelude.{◌≡◌, ◌≢◌, ℕ, ◌<◌, ◌≤◌, ◌==◌, Bool, true, false, Option, Some, None, arith, refl, sym, ap, ◌∙◌, subst, inl, inr, ⊎_elim}
+use Rattle.sv_world.proofs.Prelude.{eq-eqb, nat_lt, nat_le, get, cases_eq, cases_lt, and_from, lt-ltb, le-leb, true≢false, Key, Session, KeyState, Active, Sent}
+use Rattle.sv_world.proofs.Prelude.{Gone, Ended, Grant, Meanings, AllTouchOnlyHanded, last_number, epoch_in, is_own, was_given, known_by, is_settled, is_unmade}
+use Rattle.sv_world.proofs.Prelude.{In, WorldEvent, states, Phase, Unborn, Here, Away, Over, Stands, IsBelow, IsBehind, Cluster, World, durable_at, happens}
+use Rattle.sv_world.proofs.Prelude.{IsStep, setting_at, AllRun, IsOff, IsOnItsWay}
+use Rattle.std.proofs.Common.{◌⊎◌, ◌+◌, ◌&&◌}
 use Rattle.sv_world.proofs.EpochLemmas.{Gave, Took, step_moves}
 use Rattle.sv_world.proofs.MovesLemmas.{IsHeld, Onward}
 use Rattle.sv_world.proofs.OneKey.{behind_epoch, is_here, is_away}

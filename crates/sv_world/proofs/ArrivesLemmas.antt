@@ -1,37 +1,15 @@
 -- What comes of a session that was sent off: its sender's tick sends it again, where it comes it is acknowledged, and its sender is done.
-use Rattle.std.proofs.Common.{◌≡◌, ◌≢◌, ℕ, ◌<◌, ◌≤◌, ◌==◌, ◌&&◌, true, false, Option, Some, None, List, [], ◌∷◌, ◌++◌, length, arith, refl, sym, ap, ◌∙◌, subst, inl, inr, ⊎_elim, eq-eqb}
-use Rattle.std.specs.Prelude.{not, nat_lt, nat_le, slice_get}
-use Rattle.std.specs.List.{filter, filter_map}
-use Rattle.std.specs.FinMap.{get, insert, remove, entries, find, get-entries, get-insert, get-remove}
-use Rattle.std.proofs.lemmas.Option.{same_Some}
-use Rattle.std.proofs.lemmas.Bool.{cond_both, cond-true, cond-false, and_from, and_parts, ne_eqb, eqb-true, leb-true, lt-ltb, true≢false}
-use Rattle.sv_model.specs.declared.key.Key.{Key}
-use Rattle.sv_model.specs.declared.key.Moment.{Moment}
-use Rattle.sv_model.specs.declared.session.Session.{Session}
-use Rattle.sv_model.specs.declared.node.Setting.{Setting}
-use Rattle.sv_model.specs.declared.state.KeyState.{KeyState}
-use Rattle.sv_model.specs.declared.state.KeyState.TheVariants.{Active, Sent, Gone, Ended}
-use Rattle.sv_model.specs.declared.packet.Packet.TheVariants.{Grant, Ack}
+use Rattle.sv_world.proofs.Prelude.{◌≡◌, ◌≢◌, ℕ, ◌<◌, ◌≤◌, ◌==◌, true, false, Option, Some, None, List, [], ◌∷◌, ◌++◌, arith, refl, sym, ap, ◌∙◌, subst, inl}
+use Rattle.sv_world.proofs.Prelude.{inr, ⊎_elim, eq-eqb, not, nat_lt, nat_le, slice_get, filter, filter_map, get, insert, remove, entries, find, get-entries}
+use Rattle.sv_world.proofs.Prelude.{get-insert, get-remove, same_Some, cond_both, cond-true, cond-false, and_from, and_parts, ne_eqb, eqb-true, leb-true}
+use Rattle.sv_world.proofs.Prelude.{lt-ltb, true≢false, Key, Moment, Session, Setting, KeyState, Active, Sent, Gone, Ended, Grant, Ack, Send, EngineMeaning}
+use Rattle.sv_world.proofs.Prelude.{Meanings, key_cmp, same_key, Keys, Node, epoch_in, was_given, is_own, known, is_unmade, lacks_room, Decision, idle, left}
+use Rattle.sv_world.proofs.Prelude.{In, is_ours, on_ours, on_packet, on_grant, on_ack, takes_over, packet_in, sends_in, is_late, first_over, expire, deadlines}
+use Rattle.sv_world.proofs.Prelude.{wants_again, grant_again, on_tick, keys_total, keys_tell, Entry, entry_kept, over_in, sent_kept, known_insert, Deliver}
+use Rattle.sv_world.proofs.Prelude.{Tick, Call, states, Away, Life, Stands, Cluster, Member, World, durable_at, decision, happens, setting_at, nodes_told, Runs}
+use Rattle.sv_world.proofs.Prelude.{HasRoomAt, IsOff, HasArrived}
+use Rattle.std.proofs.Common.{◌&&◌, length}
 use Rattle.sv_model.specs.declared.input.Input.TheVariants as input
-use Rattle.sv_model.specs.declared.output.Output.TheVariants.{Send}
-use Rattle.sv_model.specs.Engine.{EngineMeaning}
-use Rattle.sv_model.specs.Container.{Meanings}
-use Rattle.sv_model.specs.Keys.{key_cmp, same_key}
-use Rattle.sv_model.specs.NodeState.{Keys, Node, epoch_in, was_given, is_own, known, is_unmade, lacks_room}
-use Rattle.sv_model.specs.Decision.{Decision, idle, left}
-use Rattle.sv_model.specs.Membership.{In}
-use Rattle.sv_model.specs.Migration.{is_ours, on_ours, on_packet, on_grant, on_ack, takes_over}
-use Rattle.sv_model.specs.Outputs.{packet_in, sends_in}
-use Rattle.sv_model.specs.Time.{is_late, first_over, expire, deadlines, wants_again, grant_again, on_tick}
-use Rattle.sv_model.proofs.KeyLemmas.{keys_total, keys_tell}
-use Rattle.sv_model.proofs.EntryLemmas.{Entry, entry_kept, over_in}
-use Rattle.sv_model.proofs.KnownLemmas.{sent_kept, known_insert}
-use Rattle.sv_world.specs.declared.event.WorldEvent.TheVariants.{Deliver, Tick}
-use Rattle.sv_world.specs.declared.call.Call.{Call}
-use Rattle.sv_world.specs.Headline.{states}
-use Rattle.sv_world.specs.Life.{Away, Life, Stands}
-use Rattle.sv_world.specs.World.{Cluster, Member, World, durable_at, decision, happens}
-use Rattle.sv_world.specs.Progress.{setting_at, nodes_told, Runs, HasRoomAt, IsOff, HasArrived}
 use Rattle.sv_world.proofs.Keys.{in_right, set_here}
 use Rattle.sv_world.proofs.OneKey.{below_epoch}
 use Rattle.sv_world.proofs.ProgressLemmas.{ready_by, stepped_by}
@@ -150,9 +128,6 @@ module _ (m : Meanings) (c : Cluster) where
       let h = and_parts (k.home == to) (nat_le (durable_at v to).next k.serial) t in
       let home : k.home ≡ to = eqb-true k.home to h.0 in
       inv.sane.unmade x k (inl (subst (λ z. (durable_at v z).next ≤ k.serial) (sym home) (leb-true _ _ h.1)))
-
-  pub apart_by : (v : World) (n : ℕ) (k : Key) (e : ℕ) (s : Session) (to : ℕ) → Inv m c v → In (Grant n to k e s) v.packets → n ≢ to
-  apart_by v n k e s to inv g same = (inv.sane.lives k).apart e s n to g (sym same)
 
   -- ---- where its acknowledgement comes its sender is done
 

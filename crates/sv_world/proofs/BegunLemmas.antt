@@ -1,32 +1,16 @@
 -- A world whose nodes have just started, and its engines.
-use Rattle.std.proofs.Common.{◌≡◌, ℕ, zero, suc, ◌<◌, ◌≤◌, true, Option, Some, None, List, [], ◌∷◌, ◌++◌, map, length, arith, refl, sym, ap, ◌∙◌, subst}
-use Rattle.std.specs.Prelude.{is_some, is_none, IfSome, slice_get, Result, Ok, Err, IfOk}
-use Rattle.std.specs.List.{All}
-use Rattle.std.specs.Option.{option_map}
+use Rattle.sv_world.proofs.Prelude.{◌≡◌, ℕ, ◌<◌, ◌≤◌, true, Option, Some, None, List, [], ◌∷◌, ◌++◌, arith, refl, sym, ap, ◌∙◌, subst, is_some, is_none, IfSome}
+use Rattle.sv_world.proofs.Prelude.{slice_get, Result, Ok, Err, IfOk, All, option_map, Core, Setting, Record, Blank, always, EngineMeaning, TouchesOnlyHanded}
+use Rattle.sv_world.proofs.Prelude.{blank, replayed, AllFit, WorldEvent, Line, Rules, setting_by, Slot, IsHeadline, HaveFitted, IsSlot, RunsOver, durable_of}
+use Rattle.sv_world.proofs.Prelude.{engine_in, engine_by, member_of, member_by, Cluster, steady, setting_of, stopped, nothing_happened, run, rules_in}
+use Rattle.sv_world.proofs.Prelude.{member_in, meant_in, noted_in, world_of, size_of, cluster_of, meanings_of, heard_of, IsWorld, restarts, IsIdle, AreFilled}
+use Rattle.sv_world.proofs.Prelude.{IsPlanned, Ran}
+use Rattle.std.proofs.Common.{zero, suc, map, length}
 use Rattle.std.proofs.lemmas.List.{length-map}
 use Rattle.std.proofs.lemmas.Option.{slice_get-get_or}
-use Rattle.sv_core.specs.declared.node.Core.{Core}
-use Rattle.sv_model.specs.declared.node.Setting.{Setting}
-use Rattle.sv_model.specs.declared.record.Record.{Record}
-use Rattle.sv_model.specs.declared.node.Stage.TheVariants.{Blank}
-use Rattle.sv_model.specs.Container.{always}
-use Rattle.sv_model.specs.Engine.{EngineMeaning, TouchesOnlyHanded}
-use Rattle.sv_model.specs.Replay.{blank, replayed}
-use Rattle.sv_model.specs.Fitting.{AllFit}
-use Rattle.sv_world.specs.declared.event.WorldEvent.{WorldEvent}
-use Rattle.sv_world.specs.declared.line.Line.{Line}
-use Rattle.sv_world.specs.declared.rules.Rules.{Rules}
-use Rattle.sv_world.specs.Rules.{setting_by}
-use Rattle.sv_world.specs.declared.slot.Slot.{Slot}
 use Rattle.sv_world.specs.declared.world.World.{World as Nodes}
-use Rattle.sv_world.specs.Headline.{IsHeadline}
-use Rattle.sv_world.specs.Journals.{HaveFitted}
-use Rattle.sv_world.specs.Slot.{IsSlot, RunsOver, durable_of, engine_in, engine_by, member_of, member_by}
-use Rattle.sv_world.specs.World.{Cluster, steady, setting_of, stopped, nothing_happened, run}
-use Rattle.sv_world.specs.Worlds.{rules_in, member_in, meant_in, noted_in, world_of, size_of, cluster_of, meanings_of, heard_of, IsWorld}
-use Rattle.sv_world.specs.Happened.{AllAlike, AreMade, AreBack, restarts}
-use Rattle.sv_world.specs.Making.{IsIdle, IsUntouched, AreFilled, HaveBegun, AreEnginesOf}
-use Rattle.sv_world.specs.Planned.{IsPlanned, Ran}
+use Rattle.sv_world.specs.Happened.{AllAlike, AreMade, AreBack}
+use Rattle.sv_world.specs.Making.{IsUntouched, HaveBegun, AreEnginesOf}
 use Rattle.sv_world.proofs.HappenedLemmas.{told_there}
 use Rattle.sv_world.proofs.MakingLemmas.{all_some}
 use Rattle.sv_world.proofs.PlanLemmas.{run_on}

@@ -1,22 +1,13 @@
 -- A core over its records, before a task and after it.
-use Rattle.std.proofs.Common.{◌≡◌, ℕ, ◌++◌, Option, Some, None, Result, Ok, Err, OnOk, OnErr, List, [], ◌∷◌, refl, sym, ap, ◌∙◌, subst, append-nil}
-use Rattle.std.specs.Option.{option_to_list}
-use Rattle.sv_model.specs.declared.node.Setting.{Setting}
-use Rattle.sv_model.specs.declared.node.Stage.{Stage}
-use Rattle.sv_model.specs.declared.node.Stage.TheVariants.{Blank}
-use Rattle.sv_model.specs.declared.record.Record.{Record}
-use Rattle.sv_model.specs.Decision.{Decision, left}
-use Rattle.sv_model.specs.Engine.{EngineMeaning}
-use Rattle.sv_model.specs.Journaled.{IsJournaled}
-use Rattle.sv_model.specs.NodeState.{Durable, Node}
-use Rattle.sv_model.specs.Replay.{blank, applied, applied_if, replayed}
-use Rattle.sv_model.specs.Fitting.{AllFit, stage_behind}
+use Rattle.sv_world.proofs.Prelude.{◌≡◌, ℕ, ◌++◌, Option, Some, None, OnOk, List, [], ◌∷◌, refl, sym, ap, ◌∙◌, subst, append-nil, option_to_list, Setting}
+use Rattle.sv_world.proofs.Prelude.{Stage, Blank, Record, Decision, left, EngineMeaning, IsJournaled, Durable, Node, blank, applied, applied_if, replayed}
+use Rattle.sv_world.proofs.Prelude.{AllFit, stage_behind, Core, node_at, decision_at, MayFollow}
+use Rattle.std.proofs.Common.{Result, Ok, Err, OnErr}
 use Rattle.sv_model.specs.Step.{View}
-use Rattle.sv_core.specs.declared.node.Core.{Core}
 use Rattle.sv_core.specs.declared.decision.Decision as code
-use Rattle.sv_core.specs.Core.{setting_of, node_at, durable_at, decision_at, view_of, WasDecided}
+use Rattle.sv_core.specs.Core.{setting_of, durable_at, view_of, WasDecided}
 use Rattle.sv_world.specs.declared.plan.Plan.{Plan}
-use Rattle.sv_world.specs.CoreStep.{IsOver, IsPlan, MayFollow, plan_of}
+use Rattle.sv_world.specs.CoreStep.{IsOver, IsPlan, plan_of}
 use Rattle.sv_world.specs.Deed.{traced_of}
 
 pub fits_more : (set : Setting) (stage : Stage) (d : Durable) (rs : List Record) (o : Option Record) → AllFit set stage d rs → MayFollow set (replayed d rs) o → AllFit set stage d (rs ++ option_to_list o)

@@ -3,36 +3,17 @@
 --
 -- Its engine answers with the request's own body, so what was put out tells which request it was: the calls can be met, what
 -- they show is that request's answer, and a list of events that asks for another request isn't theirs.
-use Rattle.std.proofs.Common.{◌≡◌, ◌≢◌, ◌<◌, ℕ, Bool, false, None, List, [], ◌∷◌, inr, arith, refl, sym, subst}
-use Rattle.std.proofs.lemmas.Bool.{ne_eqb}
-use Rattle.std.specs.Prelude.{zero, suc}
-use Rattle.std.specs.FinMap.{len-empty}
-use Rattle.sv_model.specs.declared.input.Input.{Input}
+use Rattle.sv_world.proofs.Prelude.{◌≡◌, ◌≢◌, ◌<◌, ℕ, Bool, false, None, List, [], ◌∷◌, inr, arith, refl, sym, subst, ne_eqb, zero, suc, len-empty, Input}
+use Rattle.sv_world.proofs.Prelude.{Moment, Alive, Untouched, Request, Response, Session, KeyState, always, EngineMeaning, key_cmp, decided, Node, last_number}
+use Rattle.sv_world.proofs.Prelude.{blank, Open, Step, Unsaid, Refused, Given, After, quiet, kept, carried_out, node_behind, restarted, Rise, WorldEvent, Ask}
+use Rattle.sv_world.proofs.Prelude.{Crash, Restart, Silent, Torn, NodeCall, AreCalls, AreOfAll, nothing_called, turns_at, AreOfProcesses, AreTurnsBy}
+use Rattle.sv_world.proofs.Prelude.{setting_of}
 use Rattle.sv_model.specs.declared.input.Input.TheVariants as input
-use Rattle.sv_model.specs.declared.key.Moment.{Moment}
-use Rattle.sv_model.specs.declared.outcome.Birth.TheVariants.{Alive}
-use Rattle.sv_model.specs.declared.outcome.Fate.TheVariants.{Untouched}
 use Rattle.sv_model.specs.declared.output.Output.TheVariants.{Answer}
-use Rattle.sv_model.specs.declared.request.Request.{Request}
-use Rattle.sv_model.specs.declared.response.Response.{Response}
-use Rattle.sv_model.specs.declared.session.Session.{Session}
-use Rattle.sv_model.specs.declared.state.KeyState.{KeyState}
 use Rattle.sv_model.specs.declared.site.StepFault.TheVariants.{Device}
-use Rattle.sv_model.specs.Container.{always}
-use Rattle.sv_model.specs.Engine.{EngineMeaning}
-use Rattle.sv_model.specs.Keys.{key_cmp}
-use Rattle.sv_model.specs.Node.{decided}
-use Rattle.sv_model.specs.NodeState.{Node, last_number}
-use Rattle.sv_model.specs.Replay.{blank}
-use Rattle.sv_node.specs.Call.{Open, Step, Unsaid, Done, Refused, Given, After, quiet, kept, carried_out, node_behind}
-use Rattle.sv_node.specs.Opened.{restarted}
-use Rattle.sv_node.specs.History.{Rise, halted}
-use Rattle.sv_world.specs.declared.event.WorldEvent.{WorldEvent}
-use Rattle.sv_world.specs.declared.event.WorldEvent.TheVariants.{Ask, Crash, Restart, Silent, Torn}
-use Rattle.sv_world.specs.Disks.{NodeCall, AreCalls, AreOfAll, behind_all, nothing_called}
-use Rattle.sv_world.specs.Processes.{turns_at, AreOfProcesses}
-use Rattle.sv_world.specs.Starts.{AreTurnsBy}
-use Rattle.sv_world.specs.World.{setting_of}
+use Rattle.sv_node.specs.Call.{Done}
+use Rattle.sv_node.specs.History.{halted}
+use Rattle.sv_world.specs.Disks.{behind_all}
 use Rattle.sv_world.proofs.Example.{two}
 
 -- the answer to a request has its body

@@ -1,54 +1,32 @@
 -- A list of calls of nodes over their disks is a world: for each call an event or none.
-use Rattle.std.proofs.Common.{◌≡◌, ◌≢◌, ◌⊎◌, ⊎_elim, ℕ, ◌+◌, ◌<◌, ◌==◌, ◌&&◌, ◌||◌, Bool, true, false, cond, Option, Some, None, List, [], ◌∷◌, ◌++◌, refl, sym, ap, ◌∙◌, subst, eq-eqb, append_assoc, append-nil}
-use Rattle.std.specs.Prelude.{zero, suc, nat_lt, is_some, not, map, slice_get, IfSome}
-use Rattle.std.specs.List.{list_any, flat_map}
-use Rattle.std.specs.Option.{option_map, option_to_list}
-use Rattle.std.proofs.lemmas.Bool.{cases_eq, ne_eqb, eqb-true, lt-ltb, cond-true, cond-false}
-use Rattle.std.proofs.lemmas.List.{map-append}
-use Rattle.std.proofs.lemmas.List.Concat.{flat_map-append}
+use Rattle.sv_world.proofs.Prelude.{◌≡◌, ◌≢◌, ⊎_elim, ℕ, ◌<◌, ◌==◌, Bool, true, false, cond, Option, Some, None, List, [], ◌∷◌, ◌++◌, refl, sym, ap, ◌∙◌, subst}
+use Rattle.sv_world.proofs.Prelude.{eq-eqb, append_assoc, append-nil, zero, suc, nat_lt, is_some, not, map, slice_get, IfSome, flat_map, option_map}
+use Rattle.sv_world.proofs.Prelude.{option_to_list, cases_eq, ne_eqb, eqb-true, lt-ltb, cond-true, cond-false, map-append, flat_map-append, Input, Moment}
+use Rattle.sv_world.proofs.Prelude.{Token, Setting, Packet, Record, Decision, idle, left, Meanings, always, AllTouchOnlyHanded, EngineMeaning, In, addressee}
+use Rattle.sv_world.proofs.Prelude.{sender, on_ours, decided, Durable, Node, last_number, sends_in, applied_if, token_of, Item, asked_of, asked_by, times}
+use Rattle.sv_world.proofs.Prelude.{journaled, Open, Step, Unsaid, Compact, Stop, Finished, Refused, Cut, Given, After, quiet, kept, carried_out, node_behind}
+use Rattle.sv_world.proofs.Prelude.{Does, runs_behind, restarted, Asked, WorldEvent, Ask, Deliver, Poke, Tick, Crash, Torn, Restart, TornRestart, Line, Done}
+use Rattle.sv_world.proofs.Prelude.{deed, line_of, heading_by, heading_at, halted, booted, quiet_at, start_by, NodeCall, Seen, start_at, InTurnAt}
+use Rattle.sv_world.proofs.Prelude.{AreOpenedInTurn, WasSent, IsNew, AllMayCome, MayCome, with_number, silent_event, IsCall, AreCalls, AreOfInput, AreOfStop}
+use Rattle.sv_world.proofs.Prelude.{AreEventsOf, AreOfAll, shown_at, all_numbers, seen_as, shown_by, nothing_called, AreWorld, step_fault, start_fault}
+use Rattle.sv_world.proofs.Prelude.{stop_fault, call_fault, fault_of, whole_action, torn_action, silent_action, action_of, start_in, IsTurn, AreInTurn}
+use Rattle.sv_world.proofs.Prelude.{number_of, may_come, Cluster, Member, World, steady, setting_of, set_member, stopped, started, items, item_at, is_there}
+use Rattle.sv_world.proofs.Prelude.{is_unused, call_of, happens, run, nothing_happened}
+use Rattle.std.proofs.Common.{◌⊎◌, ◌+◌, ◌&&◌}
 use Rattle.sv_journal.specs.declared.journal_fault.JournalFault.TheVariants as journal
-use Rattle.sv_model.specs.declared.input.Input.{Input}
 use Rattle.sv_model.specs.declared.input.Input.TheVariants as input
-use Rattle.sv_model.specs.declared.key.Moment.{Moment}
-use Rattle.sv_model.specs.declared.key.Token.{Token}
-use Rattle.sv_model.specs.declared.node.Setting.{Setting}
-use Rattle.sv_model.specs.declared.packet.Packet.{Packet}
-use Rattle.sv_model.specs.declared.record.Record.{Record}
 use Rattle.sv_model.specs.declared.site.StepFault.TheVariants as step
-use Rattle.sv_model.specs.Decision.{Decision, idle, left}
-use Rattle.sv_model.specs.Container.{Meanings, always, AllTouchOnlyHanded}
-use Rattle.sv_model.specs.Engine.{EngineMeaning}
-use Rattle.sv_model.specs.Membership.{In}
-use Rattle.sv_model.specs.Migration.{addressee, sender, on_ours}
-use Rattle.sv_model.specs.Node.{decided}
-use Rattle.sv_model.specs.NodeState.{Durable, Node, last_number}
-use Rattle.sv_model.specs.Outputs.{sends_in}
-use Rattle.sv_model.specs.Replay.{applied_if}
-use Rattle.sv_model.specs.Serving.{token_of}
-use Rattle.sv_model.specs.Trace.{Item, asked_of, asked_by, times}
-use Rattle.sv_model.proofs.JournalLemmas.{journaled}
 use Rattle.sv_node.specs.declared.fault.OpenFault.TheVariants as opening
-use Rattle.sv_node.specs.Call.{Call, Open, Step, Unsaid, Compact, Stop, Done as Finished, Refused, Cut, Given, After, quiet, kept, carried_out, node_behind, Does, runs_behind}
-use Rattle.sv_node.specs.Opened.{restarted}
-use Rattle.sv_world.specs.declared.call.Call.{Call as Asked}
-use Rattle.sv_world.specs.declared.event.WorldEvent.{WorldEvent}
-use Rattle.sv_world.specs.declared.event.WorldEvent.TheVariants.{Ask, Deliver, Poke, Tick, Move, Crash, Torn, Restart, TornRestart}
-use Rattle.sv_world.specs.declared.line.Line.{Line}
+use Rattle.sv_node.specs.Call.{Call}
+use Rattle.sv_world.specs.declared.event.WorldEvent.TheVariants.{Move}
 use Rattle.sv_world.specs.declared.task.Task.TheVariants as task
-use Rattle.sv_world.specs.Deed.{Done, deed, line_of, heading_by, heading_at, halted, booted, quiet_at, start_by}
-use Rattle.sv_world.specs.Disks.{NodeCall, Seen, start_at, InTurnAt, AreOpenedInTurn, WasSent, IsNew, AllMayCome, MayCome, with_number, silent_event, IsCall, AreCalls, AreOfInput, AreOfStop, AreEventsOf, AreOfAll, shown_at, is_own, all_numbers, behind, behind_all, seen_as, shown_by, nothing_called, AreWorld}
-use Rattle.sv_world.specs.Faults.{step_fault, start_fault, stop_fault, call_fault, fault_of}
-use Rattle.sv_world.specs.Action.{whole_action, torn_action, silent_action, action_of}
-use Rattle.sv_world.specs.Rolling.{start_in, IsTurn, AreInTurn}
-use Rattle.sv_world.specs.Starts.{number_of}
-use Rattle.sv_world.specs.Sent.{may_come, same_packet}
-use Rattle.sv_world.specs.World.{Cluster, Member, World, steady, setting_of, set_member, stopped, started, items, item_at, is_there, is_unused, call_of, happens, run, nothing_happened}
+use Rattle.sv_world.specs.Disks.{is_own, behind, behind_all}
 use Rattle.sv_world.proofs.DiskOrder.{asked_in, asked_at, IsDown, IsFresh, Orderly, behind_boot, step_fresh, stays_orderly, comes_new}
 use Rattle.sv_world.proofs.HeadlineLemmas.{kept as kept_fit, headline}
 use Rattle.sv_world.proofs.ActionLemmas.{done_by, goes}
 use Rattle.sv_world.proofs.Events.{run_more}
 use Rattle.sv_world.proofs.Rolled.{in_turn}
-use Rattle.sv_world.proofs.SentLemmas.{packet_decides}
+use Rattle.sv_world.proofs.SentLemmas.{in_sent}
 use Rattle.sv_world.proofs.Thrift.{decide_thrifty}
 
 -- ---- what is seen of equal effects
@@ -63,17 +41,6 @@ tells_in : {a b : After} → a ≡ b → a.told ≡ b.told
 tells_in is = ap (λ (x : After). x.told) is
 
 -- ---- a packet that was sent
-
-or_right : (b : Bool) → (b || true) ≡ true
-or_right true = refl
-or_right false = refl
-
-in_sent : (p : Packet) (ps : List Packet) → In p ps → list_any (same_packet p) ps ≡ true
-in_sent p [] i = absurd i
-in_sent p (q ∷ ps) i = ⊎_elim
-    (λ (here : q ≡ p). ap (λ b. b || list_any (same_packet p) ps) ((packet_decides p q).1 (sym here)))
-    (λ (there : In p ps). ap (λ b. same_packet p q || b) (in_sent p ps there) ∙ or_right (same_packet p q))
-    i
 
 member_of : (p : Packet) (ps : List Packet) → In p ps → (k : ℕ) × (slice_get ps k ≡ Some p)
 member_of p [] i = absurd i
@@ -92,21 +59,13 @@ comes ps (input.Move k to) h = refl
 -- ---- no fault
 
 no_step_fault : (a b s u : Bool) → a ≡ true → b ≡ true → s ≡ true → u ≡ true → step_fault a b s u ≡ None
-no_step_fault true true true true f g h i = refl
-no_step_fault true true true false f g h i = absurd (cc)
-no_step_fault true true false u f g h i = absurd (cc)
-no_step_fault true false s u f g h i = absurd (cc)
-no_step_fault false b s u f g h i = absurd (cc)
+no_step_fault a b s u f g h i = λ k. step_fault (f k) (g k) (h k) (i k)
 
 no_start_fault : (a b : Bool) → a ≡ true → b ≡ false → start_fault a b ≡ None
-no_start_fault true false f g = refl
-no_start_fault true true f g = absurd (cc)
-no_start_fault false b f g = absurd (cc)
+no_start_fault a b f g = λ k. start_fault (f k) (g k)
 
 no_stop_fault : (a b : Bool) → a ≡ true → b ≡ true → stop_fault a b ≡ None
-no_stop_fault true true f g = refl
-no_stop_fault true false f g = absurd (cc)
-no_stop_fault false b f g = absurd (cc)
+no_stop_fault a b f g = λ k. stop_fault (f k) (g k)
 
 -- ---- a world with one line more, as it is seen
 

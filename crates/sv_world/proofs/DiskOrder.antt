@@ -1,31 +1,16 @@
 -- What holds between the calls of nodes over their disks: what a node that doesn't run keeps, and that a request that is new
 -- to a node comes under a token that none had.
-use Rattle.std.proofs.Common.{◌+◌, ◌≡◌, ◌≢◌, inl, inr, ⊎_elim, ℕ, ◌<◌, ◌≤◌, ◌==◌, ◌&&◌, Bool, true, false, cond, Some, None, List, [], ◌∷◌, ◌++◌, arith, refl, sym, ap, ◌∙◌, subst, eq-eqb}
-use Rattle.std.specs.List.{flat_map}
-use Rattle.std.specs.Option.{option_to_list}
-use Rattle.std.proofs.lemmas.Bool.{cases_eq, ne_eqb}
+use Rattle.sv_world.proofs.Prelude.{◌≡◌, ◌≢◌, inl, inr, ⊎_elim, ℕ, ◌<◌, ◌≤◌, ◌==◌, Bool, true, false, cond, Some, None, List, [], ◌∷◌, ◌++◌, arith, refl, sym}
+use Rattle.sv_world.proofs.Prelude.{ap, ◌∙◌, subst, eq-eqb, flat_map, option_to_list, cases_eq, ne_eqb, Input, Moment, Token, Setting, always, EngineMeaning}
+use Rattle.sv_world.proofs.Prelude.{In, decided, Durable, Node, left, asked_by, same_token, times, Open, Step, Unsaid, Compact, Stop, Refused, Cut, Given}
+use Rattle.sv_world.proofs.Prelude.{After, quiet, kept, node_behind, Does, step_ends, runs_behind, restarted, IsNew, with_number, numbers_behind, tok, boot_of}
+use Rattle.sv_world.proofs.Prelude.{Rules, setting_by, Member, steady, set_member}
+use Rattle.std.proofs.Common.{◌+◌, ◌&&◌}
 use Rattle.sv_journal.specs.declared.journal_fault.JournalFault.TheVariants as journal
-use Rattle.sv_model.specs.declared.input.Input.{Input}
 use Rattle.sv_model.specs.declared.input.Input.TheVariants as input
-use Rattle.sv_model.specs.declared.key.Moment.{Moment}
-use Rattle.sv_model.specs.declared.key.Token.{Token}
-use Rattle.sv_model.specs.declared.node.Setting.{Setting}
 use Rattle.sv_model.specs.declared.site.StepFault.TheVariants as step
-use Rattle.sv_model.specs.Container.{always}
-use Rattle.sv_model.specs.Engine.{EngineMeaning}
-use Rattle.sv_model.specs.Membership.{In}
-use Rattle.sv_model.specs.Node.{decided}
-use Rattle.sv_model.specs.NodeState.{Durable, Node}
-use Rattle.sv_model.specs.Decision.{left}
-use Rattle.sv_model.specs.Trace.{asked_by, same_token, times}
 use Rattle.sv_node.specs.declared.fault.OpenFault.TheVariants as opening
-use Rattle.sv_node.specs.Call.{Call, Open, Step, Unsaid, Compact, Stop, Done, Refused, Cut, Given, After, quiet, kept, node_behind, Does, step_ends, runs_behind}
-use Rattle.sv_node.specs.Opened.{restarted}
-use Rattle.sv_world.specs.Disks.{IsNew, with_number, numbers_behind}
-use Rattle.sv_world.specs.Waits.{tok, boot_of}
-use Rattle.sv_world.specs.declared.rules.Rules.{Rules}
-use Rattle.sv_world.specs.Rules.{setting_by}
-use Rattle.sv_world.specs.World.{Member, steady, set_member}
+use Rattle.sv_node.specs.Call.{Call, Done}
 use Rattle.sv_world.proofs.Arrivals.{one_if, times_more}
 use Rattle.sv_world.proofs.Events.{start_boot}
 use Rattle.sv_world.proofs.Thrift.{apart, decide_thrifty}

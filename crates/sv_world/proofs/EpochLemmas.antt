@@ -1,33 +1,11 @@
 -- What a step makes of what nodes know of a key. None takes an epoch back, nor a session that is at hand, but by handing it over.
-use Rattle.std.proofs.Common.{◌≡◌, ◌⊎◌, ℕ, ◌+◌, ◌<◌, true, Option, Some, None, List, arith, refl, sym, ap, ◌∙◌, subst, inl, inr, ⊎_elim}
-use Rattle.std.specs.Prelude.{IfSome}
-use Rattle.sv_model.specs.declared.key.Key.{Key}
-use Rattle.sv_model.specs.declared.session.Session.{Session}
+use Rattle.sv_world.proofs.Prelude.{◌≡◌, ℕ, ◌<◌, true, Option, Some, None, List, arith, refl, sym, ap, ◌∙◌, subst, inl, inr, ⊎_elim, IfSome, Key, Session}
+use Rattle.sv_world.proofs.Prelude.{Setting, Past, Packet, Grant, KeyState, Active, Sent, Record, SentRecord, Taken, Meanings, AllTouchOnlyHanded, Node}
+use Rattle.sv_world.proofs.Prelude.{epoch_in, known, is_settled, Decision, left, In, mark_of, sends_in, applied, applied_if, Fits, IsJournaled, journaled}
+use Rattle.sv_world.proofs.Prelude.{next_key, WorldEvent, Call, states, Cluster, Member, World, durable_at, whole, whole_line, decision, happens, openings_of}
+use Rattle.sv_world.proofs.Prelude.{commits_in, IsStep, setting_at, Runs, WasHanded, EpochsRise, StaysAtHand}
+use Rattle.std.proofs.Common.{◌⊎◌, ◌+◌}
 use Rattle.sv_model.specs.declared.event.Event.TheVariants.{Passivate, Activate}
-use Rattle.sv_model.specs.declared.node.Setting.{Setting}
-use Rattle.sv_model.specs.declared.node.Stage.TheVariants.{Past}
-use Rattle.sv_model.specs.declared.packet.Packet.{Packet}
-use Rattle.sv_model.specs.declared.packet.Packet.TheVariants.{Grant}
-use Rattle.sv_model.specs.declared.state.KeyState.{KeyState}
-use Rattle.sv_model.specs.declared.state.KeyState.TheVariants.{Active, Sent}
-use Rattle.sv_model.specs.declared.record.Record.{Record}
-use Rattle.sv_model.specs.declared.record.Record.TheVariants.{Sent as SentRecord, Taken}
-use Rattle.sv_model.specs.Container.{Meanings, AllTouchOnlyHanded}
-use Rattle.sv_model.specs.NodeState.{Node, epoch_in, known, is_settled}
-use Rattle.sv_model.specs.Decision.{Decision, left}
-use Rattle.sv_model.specs.Membership.{In}
-use Rattle.sv_model.specs.Opening.{mark_of}
-use Rattle.sv_model.specs.Outputs.{sends_in}
-use Rattle.sv_model.specs.Replay.{applied, applied_if}
-use Rattle.sv_model.specs.Fitting.{Fits}
-use Rattle.sv_model.specs.Journaled.{IsJournaled}
-use Rattle.sv_model.proofs.JournalLemmas.{journaled}
-use Rattle.sv_model.proofs.KnownLemmas.{next_key}
-use Rattle.sv_world.specs.declared.event.WorldEvent.{WorldEvent}
-use Rattle.sv_world.specs.declared.call.Call.{Call}
-use Rattle.sv_world.specs.Headline.{states}
-use Rattle.sv_world.specs.World.{Cluster, Member, World, durable_at, whole, whole_line, decision, happens, openings_of, commits_in}
-use Rattle.sv_world.specs.Progress.{IsStep, setting_at, Runs, WasHanded, EpochsRise, StaysAtHand}
 use Rattle.sv_world.proofs.Events.{IsReady}
 use Rattle.sv_world.proofs.Keys.{in_right}
 use Rattle.sv_world.proofs.MovesLemmas.{Onward, onward_same, onward_rises, onward_stays, Handed, Came, Ground, record_moves}
@@ -120,7 +98,6 @@ module _ (m : Meanings) (touches : AllTouchOnlyHanded m) (c : Cluster) where
   mine w e call inv r k (Some entry) is =
       let n = call.node in
       let d = decision m c w call in
-      let v = whole c w e call d in
       let old = durable_at w n in
       let set = setting_at c w n in
       let node = (w.members n).node in

@@ -1,24 +1,12 @@
 -- What an event does, one case at a time: a fact that holds after each of these holds after every event.
-use Rattle.std.proofs.Common.{◌≡◌, ◌<◌, ℕ, ◌+◌, ◌&&◌, Bool, true, cond, Option, Some, None, List, [], ◌∷◌, ◌++◌, refl}
-use Rattle.std.specs.Prelude.{not, is_some}
-use Rattle.std.proofs.lemmas.Bool.{cond_both, and_parts, ltb-true}
-use Rattle.sv_model.specs.declared.key.Token.{Token}
-use Rattle.sv_model.specs.declared.packet.Packet.{Packet}
-use Rattle.sv_model.specs.declared.input.Input.{Input}
+use Rattle.sv_world.proofs.Prelude.{◌≡◌, ◌<◌, ℕ, Bool, true, cond, Option, Some, None, List, [], ◌∷◌, ◌++◌, refl, not, is_some, cond_both, and_parts, ltb-true}
+use Rattle.sv_world.proofs.Prelude.{Token, Packet, Input, Meanings, Durable, In, boot_record, applied, Setting, Boot, Forgets, asked_of, WorldEvent, Ask}
+use Rattle.sv_world.proofs.Prelude.{Deliver, Poke, Tick, Crash, Torn, Silent, Restart, TornRestart, start_in, may_come, Call, Cluster, Member, World}
+use Rattle.sv_world.proofs.Prelude.{durable_at, stopped, started, items, call_of, decision, token_of_call, is_unused, is_there, is_ready, whole, torn, silent}
+use Rattle.sv_world.proofs.Prelude.{becomes, halt, record_of_start, boots, is_spent, steps, tears, silences, starts, happens, run}
+use Rattle.std.proofs.Common.{◌+◌, ◌&&◌}
 use Rattle.sv_model.specs.declared.input.Input.TheVariants as input
-use Rattle.sv_model.specs.Container.{Meanings}
-use Rattle.sv_model.specs.NodeState.{Durable}
-use Rattle.sv_model.specs.Membership.{In}
-use Rattle.sv_model.specs.Replay.{boot_record, applied}
-use Rattle.sv_model.specs.declared.node.Setting.{Setting}
-use Rattle.sv_model.specs.declared.record.Record.TheVariants.{Boot, Forgets}
-use Rattle.sv_model.specs.Trace.{asked_of}
-use Rattle.sv_world.specs.declared.event.WorldEvent.{WorldEvent}
-use Rattle.sv_world.specs.declared.event.WorldEvent.TheVariants.{Ask, Deliver, Poke, Tick, Move, Crash, Torn, Silent, Restart, TornRestart}
-use Rattle.sv_world.specs.Rolling.{start_in}
-use Rattle.sv_world.specs.Sent.{may_come}
-use Rattle.sv_world.specs.declared.call.Call.{Call}
-use Rattle.sv_world.specs.World.{Cluster, Member, World, durable_at, stopped, started, items, call_of, decision, token_of_call, is_unused, is_there, is_ready, whole, torn, silent, becomes, halt, record_of_start, boots, is_spent, steps, tears, silences, starts, happens, run}
+use Rattle.sv_world.specs.declared.event.WorldEvent.TheVariants.{Move}
 use Rattle.sv_world.proofs.SentLemmas.{sent_in}
 
 -- a packet that is given was sent

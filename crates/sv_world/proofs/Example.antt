@@ -1,25 +1,9 @@
 -- Runs that do something: a node starts and answers a request, hands a session over, and is stopped.
-use Rattle.std.proofs.Common.{◌≡◌, ◌==◌, true, cond, None, [], ◌∷◌, refl}
-use Rattle.sv_model.specs.declared.key.Moment.{Moment}
-use Rattle.sv_model.specs.declared.request.Request.{Request}
-use Rattle.sv_model.specs.declared.response.Response.{Response}
-use Rattle.sv_model.specs.declared.session.Session.{Session}
-use Rattle.sv_model.specs.declared.outcome.Fate.TheVariants.{Untouched}
-use Rattle.sv_model.specs.declared.outcome.Birth.TheVariants.{Absent, Alive}
-use Rattle.sv_model.specs.declared.record.Change.TheVariants.{Absent as Unchanged, Alive as ChangeAlive}
-use Rattle.sv_model.specs.declared.record.Record.TheVariants.{Boot, Commit as CommitRecord, Sent as SentRecord}
-use Rattle.std.specs.FinMap.{empty, len-empty, get-insert}
-use Rattle.sv_model.specs.Keys.{key_cmp}
-use Rattle.sv_model.proofs.KeyLemmas.{keys_total}
-use Rattle.sv_model.specs.declared.state.KeyState.{KeyState}
-use Rattle.sv_model.specs.declared.state.KeyState.TheVariants.{Active}
-use Rattle.sv_model.specs.Container.{Meanings, always}
-use Rattle.sv_model.specs.Engine.{EngineMeaning}
-use Rattle.sv_model.specs.Trace.{replies_of, served_of}
+use Rattle.sv_world.proofs.Prelude.{◌≡◌, ◌==◌, true, cond, None, [], ◌∷◌, refl, Moment, Request, Response, Session, Untouched, Absent, Alive, Unchanged}
+use Rattle.sv_world.proofs.Prelude.{ChangeAlive, Boot, CommitRecord, SentRecord, empty, len-empty, get-insert, key_cmp, keys_total, KeyState, Active, Meanings}
+use Rattle.sv_world.proofs.Prelude.{always, EngineMeaning, replies_of, served_of, rules_for, Ask, Crash, Torn, Silent, Restart, Cluster, World, steady}
+use Rattle.sv_world.proofs.Prelude.{nothing_happened, run, items, commits_in, records_at}
 use Rattle.sv_model.specs.declared.input.Input.TheVariants as input
-use Rattle.sv_world.specs.Rules.{rules_for}
-use Rattle.sv_world.specs.declared.event.WorldEvent.TheVariants.{Ask, Crash, Torn, Silent, Restart}
-use Rattle.sv_world.specs.World.{Cluster, World, steady, nothing_happened, run, items, commits_in, records_at}
 
 -- it makes a session for each request
 abbrev pub makes : Response → Session → EngineMeaning

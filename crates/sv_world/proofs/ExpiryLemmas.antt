@@ -1,31 +1,15 @@
 -- A tick ends one session that has expired, where there is one; so as many ticks end them all.
-use Rattle.std.proofs.Common.{◌≡◌, ◌≢◌, ◌⊎◌, ℕ, ◌+◌, ◌≤◌, ◌==◌, Bool, true, false, cond, Option, Some, None, List, [], ◌∷◌, length, arith, refl, sym, ap, ◌∙◌, subst, inl, inr, ⊎_elim}
-use Rattle.std.specs.Prelude.{not}
-use Rattle.std.specs.List.{filter}
-use Rattle.std.specs.FinMap.{get, insert, remove, entries, get-entries, get-insert, get-remove}
-use Rattle.std.proofs.lemmas.Bool.{cond_both, cond-true, cond-false, and_parts, eqb-true, true≢false}
-use Rattle.sv_model.specs.declared.key.Key.{Key}
-use Rattle.sv_model.specs.declared.key.Moment.{Moment}
-use Rattle.sv_model.specs.declared.session.Session.{Session}
-use Rattle.sv_model.specs.declared.state.KeyState.{KeyState}
-use Rattle.sv_model.specs.declared.state.KeyState.TheVariants.{Active, Sent, Gone, Ended}
+use Rattle.sv_world.proofs.Prelude.{◌≡◌, ◌≢◌, ℕ, ◌≤◌, ◌==◌, Bool, true, false, cond, Option, Some, None, List, [], ◌∷◌, arith, refl, sym, ap, ◌∙◌, subst, inl}
+use Rattle.sv_world.proofs.Prelude.{inr, ⊎_elim, not, filter, get, insert, remove, entries, get-entries, get-insert, get-remove, cond_both, cond-true}
+use Rattle.sv_world.proofs.Prelude.{cond-false, and_parts, eqb-true, true≢false, Key, Moment, Session, KeyState, Active, Sent, Gone, Ended, Meanings, same_key}
+use Rattle.sv_world.proofs.Prelude.{Keys, Node, is_own, was_given, left, In, over_at, is_over, first_over, expire, keys_total, keys_tell, Entry, entry_kept}
+use Rattle.sv_world.proofs.Prelude.{over_in, active_kept, kept_known, WorldEvent, Ask, Deliver, Poke, Tick, Crash, Torn, Silent, Restart, TornRestart, Call}
+use Rattle.sv_world.proofs.Prelude.{Cluster, Member, World, durable_at, decision, happens, run, AreSteps, Runs, HasExpired, NoneExpires, is_tick, ticks_in}
+use Rattle.sv_world.proofs.Prelude.{TicksEndSessions}
+use Rattle.std.proofs.Common.{◌⊎◌, ◌+◌, length}
 use Rattle.sv_model.specs.declared.input.Input.TheVariants as input
-use Rattle.sv_model.specs.Container.{Meanings}
-use Rattle.sv_model.specs.Keys.{same_key}
-use Rattle.sv_model.specs.NodeState.{Keys, Node, is_own, was_given}
-use Rattle.sv_model.specs.Decision.{left}
-use Rattle.sv_model.specs.Membership.{In}
-use Rattle.sv_model.specs.Serving.{over_at}
 use Rattle.sv_model.specs.Session.{is_expired}
-use Rattle.sv_model.specs.Time.{is_over, first_over, expire}
-use Rattle.sv_model.proofs.KeyLemmas.{keys_total, keys_tell}
-use Rattle.sv_model.proofs.EntryLemmas.{Entry, entry_kept, over_in}
-use Rattle.sv_model.proofs.KnownLemmas.{active_kept, kept_known}
-use Rattle.sv_world.specs.declared.event.WorldEvent.{WorldEvent}
-use Rattle.sv_world.specs.declared.event.WorldEvent.TheVariants.{Ask, Deliver, Poke, Tick, Move, Crash, Torn, Silent, Restart, TornRestart}
-use Rattle.sv_world.specs.declared.call.Call.{Call}
-use Rattle.sv_world.specs.World.{Cluster, Member, World, durable_at, decision, happens, run}
-use Rattle.sv_world.specs.Progress.{AreSteps, Runs, HasExpired, NoneExpires, is_tick, ticks_in, TicksEndSessions}
+use Rattle.sv_world.specs.declared.event.WorldEvent.TheVariants.{Move}
 use Rattle.sv_world.proofs.ArrivesLemmas.{find_in}
 use Rattle.sv_world.proofs.ProgressLemmas.{ready_by, stepped_by}
 use Rattle.sv_world.proofs.RunningLemmas.{one_runs}

@@ -1,18 +1,11 @@
 -- An event with a fault changes nothing; any other adds its line.
-use Rattle.std.proofs.Common.{◌≡◌, ◌+◌, ◌&&◌, Bool, true, false, cond, Option, Some, None, [], ◌∷◌, ◌++◌, refl, sym, ap, subst, ℕ}
-use Rattle.std.specs.Prelude.{not, is_some}
-use Rattle.sv_model.specs.Container.{Meanings}
-use Rattle.sv_model.specs.Trace.{asked_of}
-use Rattle.sv_world.specs.declared.event.WorldEvent.{WorldEvent}
-use Rattle.sv_world.specs.declared.event.WorldEvent.TheVariants.{Ask, Deliver, Poke, Tick, Move, Crash, Torn, Silent, Restart, TornRestart}
-use Rattle.sv_world.specs.declared.line.Line.{Line}
-use Rattle.sv_world.specs.declared.call.Call.{Call}
-use Rattle.sv_world.specs.World.{Cluster, World, durable_at, stopped, started, items, whole, torn, silent, halt, call_of, is_unused, is_ready, decision, steps, tears, silences, boots, happens, token_of_call, is_there, is_spent, starts, Member}
-use Rattle.sv_world.specs.declared.fault.WorldFault.{WorldFault}
-use Rattle.sv_world.specs.declared.fault.WorldFault.TheVariants.{NoNode, Running, NotRunning, NoPacket, TokenUsed}
-use Rattle.sv_world.specs.Sent.{may_come}
-use Rattle.sv_model.specs.NodeState.{Durable}
-use Rattle.sv_world.specs.Faults.{step_fault, call_fault, start_fault, stop_fault, fault_of, IsFaulty}
+use Rattle.sv_world.proofs.Prelude.{◌≡◌, Bool, true, false, cond, Option, Some, None, [], ◌∷◌, ◌++◌, refl, sym, ap, subst, ℕ, not, is_some, Meanings, asked_of}
+use Rattle.sv_world.proofs.Prelude.{WorldEvent, Ask, Deliver, Poke, Tick, Crash, Torn, Silent, Restart, TornRestart, Line, Call, Cluster, World, durable_at}
+use Rattle.sv_world.proofs.Prelude.{stopped, started, items, whole, torn, silent, halt, call_of, is_unused, is_ready, decision, steps, tears, silences, boots}
+use Rattle.sv_world.proofs.Prelude.{happens, token_of_call, is_there, is_spent, starts, Member, WorldFault, NoNode, Running, NotRunning, NoPacket, TokenUsed}
+use Rattle.sv_world.proofs.Prelude.{may_come, Durable, step_fault, call_fault, start_fault, stop_fault, fault_of, IsFaulty}
+use Rattle.std.proofs.Common.{◌+◌, ◌&&◌}
+use Rattle.sv_world.specs.declared.event.WorldEvent.TheVariants.{Move}
 
 step_none : (a b s u : Bool) (f : WorldFault) → step_fault a b s u ≡ Some f → (a && (b && (s && u))) ≡ false
 step_none false b s u f h = refl

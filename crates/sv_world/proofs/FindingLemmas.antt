@@ -1,26 +1,10 @@
 -- The fault that is found from the node that an event is about is the one that the definitions give it.
-use Rattle.std.proofs.Common.{◌≡◌, ℕ, inl, inr, Bool, true, Option, Some, None, List, arith, refl, sym, ap, ◌∙◌}
-use Rattle.std.proofs.lemmas.Bool.{lt-ltb, le-ltb}
-use Rattle.std.proofs.lemmas.Option.{slice_get_cases}
-use Rattle.std.specs.Option.{option_map}
-use Rattle.std.specs.Prelude.{nat_lt, is_some, slice_get}
-use Rattle.sv_model.specs.declared.input.Input.{Input}
-use Rattle.sv_model.specs.declared.input.Input.TheVariants.{Ask, Packet as Comes, Poke, Tick, Move}
-use Rattle.sv_model.specs.declared.key.Moment.{Moment}
-use Rattle.sv_model.specs.declared.packet.Packet.{Packet}
-use Rattle.sv_model.specs.Migration.{addressee}
-use Rattle.sv_model.specs.NodeState.{Durable}
-use Rattle.sv_model.specs.Serving.{token_of}
-use Rattle.sv_model.specs.Trace.{asked_by, asked_of}
-use Rattle.sv_core.specs.declared.node.Core.{Core}
-use Rattle.sv_world.specs.declared.line.Line.{Line}
-use Rattle.sv_world.specs.declared.slot.Slot.{Slot}
-use Rattle.sv_world.specs.Faults.{step_fault, call_fault, start_fault, stop_fault}
+use Rattle.sv_world.proofs.Prelude.{◌≡◌, ℕ, inl, inr, Bool, true, Option, Some, None, List, arith, refl, sym, ap, ◌∙◌, lt-ltb, le-ltb, slice_get_cases}
+use Rattle.sv_world.proofs.Prelude.{option_map, nat_lt, is_some, slice_get, Input, Move, Moment, Packet, addressee, Durable, token_of, asked_by, asked_of, Core}
+use Rattle.sv_world.proofs.Prelude.{Line, Slot, step_fault, call_fault, start_fault, stop_fault, boot_if_up, durable_of, member_by, may_come, items, is_unused}
+use Rattle.sv_world.proofs.Prelude.{is_there, setting_of, member_in, members_by, setting_in, settings_by, state_by, cluster_by, AreSet}
+use Rattle.sv_model.specs.declared.input.Input.TheVariants.{Ask, Packet as Comes, Poke, Tick}
 use Rattle.sv_world.specs.Finding.{boot_by, boot_in, started_by, start_fault_in, stop_by, number_in, token_by, step_by, delivery_by}
-use Rattle.sv_world.specs.Slot.{boot_if_up, durable_of, member_by}
-use Rattle.sv_world.specs.Sent.{may_come}
-use Rattle.sv_world.specs.World.{items, is_unused, is_there, setting_of}
-use Rattle.sv_world.specs.Worlds.{member_in, members_by, setting_in, settings_by, state_by, cluster_by, AreSet}
 
 module _ {E : Type 0} where
   core_steps : (o : Option (Core E)) (d : Durable) (trace : List Line) (n : ℕ) (sent : Bool) (number : Option ℕ)

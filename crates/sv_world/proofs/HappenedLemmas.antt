@@ -1,34 +1,17 @@
 -- An event has happened in a world in code.
-use Rattle.std.proofs.Common.{◌≡◌, ◌≢◌, ℕ, ◌<◌, ◌≤◌, ◌==◌, ◌&&◌, get_or, Bool, true, false, cond, Option, Some, None, List, [], ◌∷◌, ◌++◌, length, arith, refl, sym, ap, ◌∙◌, subst, ⊎_elim, eq-eqb, append-nil}
-use Rattle.std.specs.Prelude.{not, is_some, is_none, slice_get}
-use Rattle.std.specs.List.{All}
-use Rattle.std.specs.Option.{option_map}
-use Rattle.std.proofs.lemmas.Bool.{cases_eq, ne_eqb, cond-true, cond-false}
-use Rattle.std.proofs.lemmas.Option.{same_Some, slice_get_cases}
-use Rattle.sv_core.specs.declared.node.Core.{Core}
-use Rattle.sv_core.specs.Core.{engine_of}
-use Rattle.sv_model.specs.declared.event.Told.{Told}
-use Rattle.sv_model.specs.declared.packet.Packet.{Packet}
-use Rattle.sv_model.specs.declared.node.Setting.{Setting}
-use Rattle.sv_model.specs.Engine.{EngineMeaning, heard_all}
-use Rattle.sv_model.specs.NodeState.{last_number}
-use Rattle.sv_model.specs.Outputs.{sends_in}
-use Rattle.sv_model.specs.Node.{decided}
-use Rattle.sv_world.specs.declared.event.WorldEvent.{WorldEvent}
-use Rattle.sv_world.specs.declared.event.WorldEvent.TheVariants.{Ask, Deliver, Poke, Tick, Move, Crash, Torn, Silent, Restart, TornRestart}
-use Rattle.sv_world.specs.declared.line.Effect.{Effect}
-use Rattle.sv_world.specs.declared.action.Action.{Action}
-use Rattle.sv_world.specs.declared.slot.Slot.{Slot}
-use Rattle.sv_world.specs.declared.task.Task.{Task}
+use Rattle.sv_world.proofs.Prelude.{◌≡◌, ◌≢◌, ℕ, ◌<◌, ◌≤◌, ◌==◌, get_or, Bool, true, false, cond, Option, Some, None, List, [], ◌∷◌, ◌++◌, arith, refl, sym, ap}
+use Rattle.sv_world.proofs.Prelude.{◌∙◌, subst, ⊎_elim, eq-eqb, append-nil, not, is_some, is_none, slice_get, All, option_map, cases_eq, ne_eqb, cond-true}
+use Rattle.sv_world.proofs.Prelude.{cond-false, same_Some, slice_get_cases, Core, engine_of, Told, Packet, Setting, EngineMeaning, heard_all, last_number}
+use Rattle.sv_world.proofs.Prelude.{sends_in, decided, WorldEvent, Ask, Deliver, Poke, Tick, Crash, Torn, Silent, Restart, TornRestart, Effect, Action, Slot}
+use Rattle.sv_world.proofs.Prelude.{Task, Done, deed, number_for, told_by, line_of, quiet_at, heading_at, heading_by, halted, booted, IsSlot, engine_by}
+use Rattle.sv_world.proofs.Prelude.{action_of, Member, set_member, setting_of, stopped, started, setting_by, rules_in, members_by, setting_in, settings_by}
+use Rattle.sv_world.proofs.Prelude.{meant_in, meanings_by, world_of, size_of, cluster_of, meanings_of, heard_of, IsSet, IsWorld, AllMean, by_node, HaveDone}
+use Rattle.sv_world.proofs.Prelude.{AreUndone, HaveHappened, IsStill, told_at}
+use Rattle.std.proofs.Common.{◌&&◌, length}
+use Rattle.sv_world.specs.declared.event.WorldEvent.TheVariants.{Move}
 use Rattle.sv_world.specs.declared.task.Task.TheVariants as task
 use Rattle.sv_world.specs.declared.world.World.{World as Nodes}
-use Rattle.sv_world.specs.Deed.{Done, deed, number_for, told_by, line_of, quiet_at, heading_at, heading_by, halted, booted}
-use Rattle.sv_world.specs.Slot.{IsSlot, engine_by}
-use Rattle.sv_world.specs.Action.{action_of}
-use Rattle.sv_world.specs.World.{Member, set_member, setting_of, stopped, started}
-use Rattle.sv_world.specs.Rules.{setting_by}
-use Rattle.sv_world.specs.Worlds.{rules_in, members_by, setting_in, settings_by, meant_in, meanings_by, world_of, size_of, cluster_of, meanings_of, heard_of, IsSet, IsWorld, AllMean}
-use Rattle.sv_world.specs.Happened.{by_node, HaveDone, AreUndone, HaveHappened, HasActed, IsStill, told_at, is_start}
+use Rattle.sv_world.specs.Happened.{HasActed, is_start}
 use Rattle.sv_world.proofs.ActionLemmas.{Goes, done_at, goes}
 
 -- ---- what was done is done at the node, and a start tells nothing

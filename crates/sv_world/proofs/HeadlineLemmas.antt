@@ -1,20 +1,15 @@
 -- The theorem that the project is for, of every list of events.
-use Rattle.std.proofs.Common.{ℕ, ◌+◌, false, List, [], ◌∷◌, arith, refl}
-use Rattle.sv_model.specs.declared.state.TheConstants.{KEY_LIMIT}
-use Rattle.sv_model.specs.Engine.{EngineMeaning, TouchesOnlyHanded}
-use Rattle.sv_model.specs.Container.{Meanings, always, AllTouchOnlyHanded, nothing_stored}
-use Rattle.sv_world.specs.declared.event.WorldEvent.{WorldEvent}
-use Rattle.sv_world.specs.declared.rules.Rules.{Rules}
-use Rattle.sv_world.specs.Headline.{AtMostOne, IsTold, IsReplay, IsHeadline}
-use Rattle.sv_world.specs.Journals.{AreWithin, HaveFitted}
-use Rattle.sv_world.specs.World.{Cluster, steady, World, happens, run, nothing_happened, commits_in, AlwaysKnows}
+use Rattle.sv_world.proofs.Prelude.{ℕ, false, List, [], ◌∷◌, arith, refl, AreLines, IsAnswered, IsToldLine, KEY_LIMIT, EngineMeaning, TouchesOnlyHanded}
+use Rattle.sv_world.proofs.Prelude.{Meanings, always, AllTouchOnlyHanded, nothing_stored, WorldEvent, Rules, AtMostOne, IsTold, IsReplay, IsHeadline, AreWithin}
+use Rattle.sv_world.proofs.Prelude.{HaveFitted, Cluster, steady, World, happens, run, nothing_happened, commits_in, AlwaysKnows}
+use Rattle.std.proofs.Common.{◌+◌}
 use Rattle.sv_world.proofs.Added.{as_many}
 use Rattle.sv_world.proofs.Answered.{are_answers}
 use Rattle.sv_world.proofs.Orders.{Waiting, happens_waits, first_waits, all_come}
 use Rattle.sv_world.proofs.Records.{Kept, happens_kept, first_kept}
 use Rattle.sv_world.proofs.Runs.{Inv, happens_keeps, at_first, actives, copies, agree, map_has, map_only}
 use Rattle.sv_world.proofs.Tokens.{Spent, happens_spent, first_spent, served_once}
-use Rattle.sv_world.proofs.Told.{Answering, Telling, happens_answers, first_answers, answered, fewer, happens_tells, first_tells, told}
+use Rattle.sv_world.proofs.Told.{happens_answers, answered, fewer, happens_tells, told}
 use Rattle.sv_world.proofs.Wider.{all_wider, widest}
 
 -- rules that have room for as many keys as any have
@@ -24,18 +19,18 @@ roomiest = record { deadline = 0; keys = KEY_LIMIT + 1; forget = false }
 -- what the invariant says of a world, whatever its nodes were told of one another
 pub record Parts (m : Meanings) (c : Cluster) (w : World) : Type 0 where
   pub inv : Inv m c w
-  pub answering : Answering m w
+  pub answering : AreLines (IsAnswered m) m nothing_stored w.trace
   pub spent : Spent w
-  pub telling : Telling m w
+  pub telling : AreLines (IsToldLine m) m nothing_stored w.trace
 
 first_parts : (m : Meanings) (c : Cluster) → Parts m c nothing_happened
-first_parts m c = record { inv = at_first m c; answering = first_answers m; spent = first_spent m c; telling = first_tells m }
+first_parts m c = record { inv = at_first m c; answering = tt; spent = first_spent m c; telling = tt }
 
 pub at_most_one : (m : Meanings) (c : Cluster) (w : World) → Inv m c w → AtMostOne w
 at_most_one m c w inv = record { active = actives m c w inv; live = copies m c w inv }
 
 pub is_told : (m : Meanings) (c : Cluster) (w : World) → Parts m c w → IsTold m w
-is_told m c w p = record { lines = p.telling.lines; told = told m nothing_stored w.trace p.telling.lines }
+is_told m c w p = record { lines = p.telling; told = told m nothing_stored w.trace p.telling }
 
 module _ (m : Meanings) (touches : AllTouchOnlyHanded m) (c : Cluster) where
   happens_parts : (w : World) (e : WorldEvent) → Parts m c w → Parts m c (happens m c w e)
@@ -88,12 +83,12 @@ module _ (m : Meanings) (touches : AllTouchOnlyHanded m) (c : Cluster) where
         agree = agree m c w p.inv;
         container = record { lawful = p.inv.sane.lawful; stands = waits.excused; has = map_has m c w p.inv; only = map_only m c w p.inv };
         acknowledged = record {
-          lines = p.answering.lines;
-          answers = are_answers m w p.answering.lines waits.excused (λ t. omega (arith, served_once m c w p.spent t));
+          lines = p.answering;
+          answers = are_answers m w p.answering waits.excused (λ t. omega (arith, served_once m c w p.spent t));
           own = all_come w.trace (commits_in w) waits.served;
           distinct = p.spent.once;
-          answered = λ t. answered m nothing_stored t w.trace p.answering.lines;
-          served = λ t. omega (arith, answered m nothing_stored t w.trace p.answering.lines, fewer t w.trace);
+          answered = λ t. answered m nothing_stored t w.trace p.answering;
+          served = λ t. omega (arith, answered m nothing_stored t w.trace p.answering, fewer t w.trace);
           once = served_once m c w p.spent;
         };
         told = is_told m c w p;

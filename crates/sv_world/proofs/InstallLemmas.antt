@@ -1,25 +1,15 @@
 -- A stopped node gets something else, before it and after it.
-use Rattle.std.proofs.Common.{◌≡◌, ◌≢◌, ℕ, ◌+◌, ◌<◌, ◌≤◌, ◌==◌, ◌&&◌, Bool, true, false, cond, get_or, Option, Some, None, List, length, arith, refl, sym, ap, ◌∙◌, subst, ⊎_elim, eq-eqb}
-use Rattle.std.specs.Prelude.{IfSome, slice_get, nat_lt, is_some, is_none, Result, Ok, Err, OnOk, OnErr, IfErr}
-use Rattle.std.proofs.lemmas.Bool.{and_parts, cond_both, cases_eq, cases_lt, eqb-true, ne_eqb, lt-ltb, le-ltb, lt-leb, le-leb}
-use Rattle.std.proofs.lemmas.Option.{slice_get_cases}
-use Rattle.sv_model.specs.declared.node.Setting.{Setting}
-use Rattle.sv_model.specs.declared.node.Stage.TheVariants.{Blank}
-use Rattle.sv_model.specs.Container.{Meanings}
-use Rattle.sv_model.specs.Engine.{EngineMeaning, TouchesOnlyHanded}
-use Rattle.sv_model.specs.Fitting.{AllFit}
-use Rattle.sv_model.specs.Replay.{blank}
-use Rattle.sv_world.specs.declared.installing.InstallFault.{InstallFault}
+use Rattle.sv_world.proofs.Prelude.{◌≡◌, ◌≢◌, ℕ, ◌<◌, ◌≤◌, ◌==◌, Bool, true, false, cond, get_or, Option, Some, None, List, arith, refl, sym, ap, ◌∙◌, subst}
+use Rattle.sv_world.proofs.Prelude.{⊎_elim, eq-eqb, IfSome, slice_get, nat_lt, is_some, is_none, Result, Ok, Err, OnErr, IfErr, and_parts, cond_both, cases_eq}
+use Rattle.sv_world.proofs.Prelude.{cases_lt, eqb-true, ne_eqb, lt-ltb, le-ltb, lt-leb, le-leb, slice_get_cases, Setting, Blank, Meanings, EngineMeaning}
+use Rattle.sv_world.proofs.Prelude.{TouchesOnlyHanded, AllFit, blank, InstallFault, Rules, Slot, setting_by, IsSlot, RunsOver, member_of, engine_in, engine_by}
+use Rattle.sv_world.proofs.Prelude.{durable_of, boot_if_up, Cluster, Member, World, setting_of, run, nothing_happened, rules_in, member_in, settings_by}
+use Rattle.sv_world.proofs.Prelude.{world_of, size_of, cluster_of, meanings_of, IsSet, AreSet, events_in, since, Ran, fault_by, AreInstalled}
+use Rattle.std.proofs.Common.{◌+◌, ◌&&◌, length}
+use Rattle.std.specs.Prelude.{OnOk}
 use Rattle.sv_world.specs.declared.installing.InstallFault.TheVariants.{NoNode, NotTold, Running}
-use Rattle.sv_world.specs.declared.rules.Rules.{Rules}
-use Rattle.sv_world.specs.declared.slot.Slot.{Slot}
 use Rattle.sv_world.specs.declared.world.World.{World as Nodes}
-use Rattle.sv_world.specs.Rules.{setting_by}
-use Rattle.sv_world.specs.Slot.{IsSlot, RunsOver, member_of, engine_in, engine_by, durable_of, boot_if_up}
-use Rattle.sv_world.specs.World.{Cluster, Member, World, setting_of, run, nothing_happened}
-use Rattle.sv_world.specs.Worlds.{rules_in, member_in, settings_by, world_of, size_of, cluster_of, meanings_of, IsSet, AreSet}
-use Rattle.sv_world.specs.Happened.{events_in}
-use Rattle.sv_world.specs.Planned.{since, Ran, changed_behind, meanings_behind, cluster_behind, last_of, fault_in, fault_by, IsCause, AreInstalled}
+use Rattle.sv_world.specs.Planned.{changed_behind, meanings_behind, cluster_behind, last_of, fault_in, IsCause}
 use Rattle.sv_world.proofs.PlanLemmas.{Same, AreThere, there_by, run_so_far}
 use Rattle.sv_world.proofs.SlotLemmas.{none_by}
 

@@ -1,22 +1,12 @@
 -- The processes of a node, one after the other, are calls of its starts.
-use Rattle.std.proofs.Common.{◌≡◌, ℕ, ◌<◌, ◌≤◌, Bool, true, false, cond, Option, Some, None, List, [], ◌∷◌, ◌++◌, arith, sym, ap, ◌∙◌, subst}
-use Rattle.std.specs.Prelude.{nat_le}
-use Rattle.std.specs.List.{AllByRecursion}
-use Rattle.std.proofs.lemmas.Bool.{cond-true, cond-false, le-leb, lt-leb}
-use Rattle.sv_model.specs.declared.input.Input.{Input}
-use Rattle.sv_model.specs.declared.input.Input.TheVariants as input
-use Rattle.sv_model.specs.declared.node.Setting.{Setting}
-use Rattle.sv_model.specs.Container.{AllTouchOnlyHanded}
-use Rattle.sv_model.specs.Engine.{EngineMeaning, TouchesOnlyHanded}
-use Rattle.sv_model.specs.NodeState.{Durable}
-use Rattle.sv_model.specs.Replay.{blank}
-use Rattle.sv_node.specs.Call.{Call, Open, Step, Unsaid, Compact, Stop, Done, Refused, Cut, Given}
-use Rattle.sv_node.specs.History.{Turn, Stand, halted, behind, behind_all, IsAbove, number_in, RiseIn, numbers_in, RisesAt, lowest_behind, Rise}
-use Rattle.sv_world.specs.Disks.{NodeCall}
-use Rattle.sv_world.specs.Processes.{AreOfProcesses, AreOfLives}
-use Rattle.sv_world.specs.Rules.{setting_by}
-use Rattle.sv_world.specs.Starts.{AreTurnsBy, Process, FollowOn, turns_of, process_of, meaning_in, nodes_in, rules_in, meanings_of, cluster_of}
-use Rattle.sv_world.specs.World.{setting_of}
+use Rattle.sv_world.proofs.Prelude.{◌≡◌, ℕ, ◌<◌, ◌≤◌, Bool, true, false, cond, Option, Some, None, List, [], ◌∷◌, ◌++◌, arith, sym, ap, ◌∙◌, subst, nat_le}
+use Rattle.sv_world.proofs.Prelude.{AllByRecursion, cond-true, cond-false, le-leb, lt-leb, Setting, AllTouchOnlyHanded, EngineMeaning, TouchesOnlyHanded}
+use Rattle.sv_world.proofs.Prelude.{Durable, blank, Turn, Stand, behind_all}
+use Rattle.sv_world.proofs.Prelude.{Rise, NodeCall, AreOfProcesses, AreOfLives, setting_by, AreTurnsBy, Process, FollowOn}
+use Rattle.sv_world.proofs.Prelude.{turns_of, process_of, meaning_in, nodes_in, setting_of}
+use Rattle.sv_node.specs.History.{halted, behind}
+use Rattle.sv_node.proofs.HistoryLemmas.{rise_join}
+use Rattle.sv_world.specs.Starts.{rules_in, meanings_of, cluster_of}
 use Rattle.sv_world.proofs.LivesLemmas.{rise_all, turns_by}
 
 -- ---- two lists of calls, one after the other
@@ -24,52 +14,6 @@ use Rattle.sv_world.proofs.LivesLemmas.{rise_all, turns_by}
 turns_join : (ms : ℕ → EngineMeaning) (sets : ℕ → Setting) (s : Stand) (ts us : List Turn) → AreTurnsBy ms sets s ts → AreTurnsBy ms sets (behind_all s ts) us → AreTurnsBy ms sets s (ts ++ us)
 turns_join ms sets s [] us a b = b
 turns_join ms sets s (t ∷ ts) us a b = (a.0, turns_join ms sets (behind s t) ts us a.1 b)
-
-above_less : (low mid : ℕ) (i : Input) → low ≤ mid → IsAbove mid i → IsAbove low i
-above_less low mid (input.Ask number r) le h = omega (arith, le, h)
-above_less low mid (input.Packet p) le h = tt
-above_less low mid input.Poke le h = tt
-above_less low mid input.Tick le h = tt
-above_less low mid (input.Move k to) le h = tt
-
-number_less : (low mid : ℕ) (i : Input) → low ≤ mid → number_in low i ≤ number_in mid i
-number_less low mid (input.Ask number r) le = omega arith
-number_less low mid (input.Packet p) le = le
-number_less low mid input.Poke le = le
-number_less low mid input.Tick le = le
-number_less low mid (input.Move k to) le = le
-
-rise_in_less : (low mid : ℕ) (gs : List Given) → low ≤ mid → RiseIn mid gs → RiseIn low gs
-rise_in_less low mid [] le h = tt
-rise_in_less low mid (g ∷ gs) le h = (above_less low mid g.input le h.0, rise_in_less (number_in low g.input) (number_in mid g.input) gs (number_less low mid g.input le) h.1)
-
-numbers_less : (low mid : ℕ) (gs : List Given) → low ≤ mid → numbers_in low gs ≤ numbers_in mid gs
-numbers_less low mid [] le = le
-numbers_less low mid (g ∷ gs) le = numbers_less (number_in low g.input) (number_in mid g.input) gs (number_less low mid g.input le)
-
-rises_less : (low mid : ℕ) (c : Call) → low ≤ mid → RisesAt mid c → RisesAt low c
-rises_less low mid (Open ending) le h = tt
-rises_less low mid (Step at i ending) le h = above_less low mid i le h
-rises_less low mid (Unsaid gs) le h = rise_in_less low mid gs le h
-rises_less low mid (Compact ending) le h = tt
-rises_less low mid Stop le h = tt
-
-lowest_less : (low mid : ℕ) (c : Call) → low ≤ mid → lowest_behind low c ≤ lowest_behind mid c
-lowest_less low mid (Open Done) le = omega arith
-lowest_less low mid (Open (Refused fault)) le = le
-lowest_less low mid (Open Cut) le = le
-lowest_less low mid (Step at i ending) le = number_less low mid i le
-lowest_less low mid (Unsaid gs) le = numbers_less low mid gs le
-lowest_less low mid (Compact ending) le = le
-lowest_less low mid Stop le = le
-
-rise_less : (low mid high : ℕ) (us : List Turn) → low ≤ mid → Rise mid high us → Rise low high us
-rise_less low mid high [] le h = omega (arith, le, h)
-rise_less low mid high (u ∷ us) le h = (rises_less low mid u.call le h.0, rise_less (lowest_behind low u.call) (lowest_behind mid u.call) high us (lowest_less low mid u.call le) h.1)
-
-rise_join : (low mid high : ℕ) (ts us : List Turn) → Rise low mid ts → Rise mid high us → Rise low high (ts ++ us)
-rise_join low mid high [] us a b = rise_less low mid high us a b
-rise_join low mid high (t ∷ ts) us a b = (a.0, rise_join (lowest_behind low t.call) mid high ts us a.1 b)
 
 -- ---- the processes of a node
 

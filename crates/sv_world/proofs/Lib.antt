@@ -1,3 +1,4 @@
+mod Prelude
 pub mod SentLemmas
 pub mod Events
 pub mod OneKey

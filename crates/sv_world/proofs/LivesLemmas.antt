@@ -1,25 +1,16 @@
 -- The calls of one process are calls of its starts, whatever other starts mean.
-use Rattle.std.proofs.Common.{◌≡◌, ℕ, ◌+◌, ◌<◌, ◌≤◌, Bool, true, false, cond, List, [], ◌∷◌, arith, refl, ap, ◌∙◌, subst, inl, ⊎_elim}
+use Rattle.sv_world.proofs.Prelude.{◌≡◌, ℕ, ◌<◌, ◌≤◌, Bool, true, false, cond, List, [], ◌∷◌, arith, refl, ap, ◌∙◌, subst, inl, ⊎_elim, Input, Moment, Setting}
+use Rattle.sv_world.proofs.Prelude.{left, EngineMeaning, decided, Node, Ending, Open, Step, Unsaid, Compact, Stop, Refused, Cut, Given, After, quiet, kept}
+use Rattle.sv_world.proofs.Prelude.{node_behind, Does, StopsStart, StopsStep, goes_on, runs_behind, step_ends, compaction_ends, Turn, Stand, behind_all}
+use Rattle.sv_world.proofs.Prelude.{AreTurns, restarted, number_of, AreTurnsBy, Cluster}
+use Rattle.std.proofs.Common.{◌+◌}
 use Rattle.sv_journal.specs.declared.journal_fault.JournalFault.TheVariants as journal
-use Rattle.sv_model.specs.declared.input.Input.{Input}
-use Rattle.sv_model.specs.declared.key.Moment.{Moment}
-use Rattle.sv_model.specs.declared.node.Setting.{Setting}
 use Rattle.sv_model.specs.declared.site.StepFault.TheVariants as step
-use Rattle.sv_model.specs.Decision.{left}
-use Rattle.sv_model.specs.Engine.{EngineMeaning}
-use Rattle.sv_model.specs.Node.{decided}
-use Rattle.sv_model.specs.NodeState.{Node}
 use Rattle.sv_node.specs.declared.fault.OpenFault.TheVariants as opening
-use Rattle.sv_node.specs.Call.{Ending, Call, Open, Step, Unsaid, Compact, Stop, Done, Refused, Cut, Given, After, quiet, kept, node_behind, Does, StopsStart, StopsStep, goes_on, runs_behind, step_ends, compaction_ends}
-use Rattle.sv_node.specs.History.{Turn, Stand, behind, behind_all, AreTurns}
-use Rattle.sv_node.specs.Opened.{restarted}
-use Rattle.sv_world.specs.Starts.{number_of, AreTurnsBy}
-use Rattle.sv_world.specs.World.{Cluster}
+use Rattle.sv_node.specs.Call.{Call, Done}
+use Rattle.sv_node.specs.History.{behind}
 use Rattle.sv_world.proofs.Events.{start_boot}
 use Rattle.sv_world.proofs.Thrift.{decide_thrifty}
-
-boot_in : Stand → ℕ
-boot_in s = s.node.durable.boot
 
 -- a step keeps the number of the start
 alone : Setting → Cluster

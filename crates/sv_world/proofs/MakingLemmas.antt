@@ -1,15 +1,9 @@
 -- Engines in the nodes of a world.
-use Rattle.std.proofs.Common.{◌≡◌, ◌≢◌, ℕ, zero, suc, ◌+◌, ◌<◌, true, false, Option, Some, None, List, [], ◌∷◌, ◌++◌, map, take, drop, get_or, length, arith, refl, sym, ap, ◌∙◌, ⊎_elim, length-append, add-one}
-use Rattle.std.specs.Prelude.{is_some, IfSome, slice_get}
-use Rattle.std.specs.List.{All}
-use Rattle.std.proofs.lemmas.Bool.{cases_eq}
-use Rattle.std.proofs.lemmas.List.{map-append, drop-drop}
-use Rattle.sv_world.specs.declared.rules.Rules.{Rules}
-use Rattle.sv_world.specs.Rules.{setting_by}
-use Rattle.sv_world.specs.declared.slot.Slot.{Slot}
-use Rattle.sv_world.specs.Slot.{engine_in, engine_by}
-use Rattle.sv_world.specs.Worlds.{setting_in, settings_by}
-use Rattle.sv_world.specs.Making.{IsIdle, AreFilled}
+use Rattle.sv_world.proofs.Prelude.{◌≡◌, ◌≢◌, ℕ, ◌<◌, true, false, Option, Some, None, List, [], ◌∷◌, ◌++◌, drop, get_or, arith, refl, sym, ap, ◌∙◌, ⊎_elim}
+use Rattle.sv_world.proofs.Prelude.{length-append, add-one, is_some, IfSome, slice_get, All, cases_eq, map-append, Rules, setting_by, Slot, engine_in}
+use Rattle.sv_world.proofs.Prelude.{engine_by, setting_in, settings_by, IsIdle, AreFilled}
+use Rattle.std.proofs.Common.{zero, suc, ◌+◌, map, take, length}
+use Rattle.std.proofs.lemmas.List.{drop-drop}
 
 module _ {X : Type 0} where
   -- the first of a list, and the rest

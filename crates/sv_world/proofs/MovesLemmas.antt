@@ -1,26 +1,12 @@
 -- What a record of a step makes of what its node knows of a key: it goes on as it was, or the session is handed over, or taken over.
-use Rattle.std.proofs.Common.{◌≡◌, ◌≢◌, ◌⊎◌, ℕ, ◌+◌, ◌<◌, ◌≤◌, ◌==◌, ◌&&◌, Bool, true, false, cond, Option, Some, None, arith, refl, sym, ap, ◌∙◌, subst, inl, inr, ⊎_elim, eq-eqb}
-use Rattle.std.specs.Prelude.{not, nat_lt}
-use Rattle.std.specs.FinMap.{get, insert, remove}
-use Rattle.std.proofs.lemmas.Bool.{and_parts, and_from, eqb-true, ltb-true, true≢false}
-use Rattle.sv_model.specs.declared.key.Key.{Key}
-use Rattle.sv_model.specs.declared.session.Session.{Session}
-use Rattle.sv_model.specs.declared.node.Setting.{Setting}
-use Rattle.sv_model.specs.declared.node.Stage.TheVariants.{Past}
-use Rattle.sv_model.specs.declared.state.KeyState.{KeyState}
-use Rattle.sv_model.specs.declared.state.KeyState.TheVariants.{Active, Sent, Gone, Ended}
-use Rattle.sv_model.specs.declared.record.Record.{Record}
-use Rattle.sv_model.specs.declared.record.Record.TheVariants.{Boot, Commit, Expired, Sent as SentRecord, Taken}
-use Rattle.sv_model.specs.declared.record.Record.TheVariants.{Gone as GoneRecord, State, Counters, Forgets, Counted}
-use Rattle.sv_model.specs.declared.record.Change.{Change}
-use Rattle.sv_model.specs.declared.record.Change.TheVariants.{Absent as Unchanged, Alive as ChangeAlive, Ended as ChangeEnded}
-use Rattle.sv_model.specs.Keys.{set_key}
-use Rattle.sv_model.specs.NodeState.{Durable, last_number, epoch_in, is_own, was_given, known_by, known, is_settled, has_space}
-use Rattle.sv_model.specs.Replay.{applied, with_named, with_born, next_by}
-use Rattle.sv_model.specs.Fitting.{is_active, fits_named, fits_born, is_next, FitsSent, fits_gone, Fits}
-use Rattle.sv_model.specs.Serving.{over_at}
-use Rattle.sv_model.proofs.KeyLemmas.{keys_tell}
-use Rattle.sv_model.proofs.KnownLemmas.{kept_known, IsOwnHome, next_key, known_born, known_spent}
+use Rattle.sv_world.proofs.Prelude.{◌≡◌, ◌≢◌, ℕ, ◌<◌, ◌≤◌, ◌==◌, Bool, true, false, cond, Option, Some, None, arith, refl, sym, ap, ◌∙◌, subst, inl, inr}
+use Rattle.sv_world.proofs.Prelude.{⊎_elim, eq-eqb, not, nat_lt, get, insert, remove, and_parts, and_from, eqb-true, ltb-true, true≢false, Key, Session}
+use Rattle.sv_world.proofs.Prelude.{Setting, Past, KeyState, Active, Sent, Gone, Ended, Record, Boot, SentRecord, Taken, GoneRecord, State, Counters, Forgets}
+use Rattle.sv_world.proofs.Prelude.{Counted, Change, Unchanged, ChangeAlive, ChangeEnded, set_key, Durable, last_number, epoch_in, is_own, was_given, known_by}
+use Rattle.sv_world.proofs.Prelude.{known, is_settled, has_space, applied, with_named, with_born, next_by, is_active, fits_named, fits_born, is_next, FitsSent}
+use Rattle.sv_world.proofs.Prelude.{fits_gone, Fits, over_at, keys_tell, kept_known, IsOwnHome, next_key, known_born, known_spent}
+use Rattle.std.proofs.Common.{◌⊎◌, ◌+◌, ◌&&◌}
+use Rattle.sv_model.specs.declared.record.Record.TheVariants.{Commit, Expired}
 use Rattle.sv_world.proofs.Keys.{set_here, set_there}
 use Rattle.sv_world.proofs.Steps.{IsRow, put_row, keeps_row, ends_row, over_epoch, over_up}
 

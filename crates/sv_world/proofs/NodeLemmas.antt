@@ -1,18 +1,13 @@
 -- One of the nodes has changed.
-use Rattle.std.proofs.Common.{◌≡◌, ◌≢◌, ℕ, zero, suc, ◌<◌, Bool, true, false, cond, Option, Some, List, [], ◌∷◌, length, arith, refl, sym, ap, ◌∙◌, ⊎_elim}
-use Rattle.std.specs.Prelude.{◌==◌, slice_get, slice_set, Result, Ok, Err, IfOk, OnErr}
-use Rattle.std.specs.Option.{option_map}
-use Rattle.std.proofs.lemmas.Bool.{cases_eq, ne_eqb, eq-eqb, eqb-true}
-use Rattle.sv_model.specs.Engine.{EngineMeaning, heard_all}
-use Rattle.sv_world.specs.declared.line.Effect.{Effect}
-use Rattle.sv_world.specs.declared.slot.Slot.{Slot}
-use Rattle.sv_world.specs.declared.task.Task.{Task}
-use Rattle.sv_world.specs.Deed.{deed, told_by, Done}
-use Rattle.sv_model.specs.declared.node.Setting.{Setting}
-use Rattle.sv_world.specs.Planned.{AreInstalled}
-use Rattle.sv_world.specs.Slot.{HasDone, IsUndone, engine_in, heard_in}
-use Rattle.sv_world.specs.Worlds.{member_in, setting_in, noted_in, meant_in, members_by, settings_by, heard_by, meanings_by}
-use Rattle.sv_world.specs.Happened.{HaveDone, AreUndone}
+use Rattle.sv_world.proofs.Prelude.{◌≡◌, ◌≢◌, ℕ, ◌<◌, Bool, true, false, cond, Option, Some, List, [], ◌∷◌, arith, refl, sym, ap, ◌∙◌, ⊎_elim, slice_get}
+use Rattle.sv_world.proofs.Prelude.{Result, Ok, Err, IfOk, OnErr, option_map, cases_eq, ne_eqb, eqb-true, EngineMeaning, heard_all, Effect, Slot, Task, deed}
+use Rattle.sv_world.proofs.Prelude.{told_by, Done, Setting, AreInstalled, HasDone, engine_in, member_in, setting_in, noted_in, meant_in, members_by}
+use Rattle.sv_world.proofs.Prelude.{settings_by, meanings_by, HaveDone, AreUndone}
+use Rattle.std.proofs.Common.{zero, suc, length}
+use Rattle.std.specs.Prelude.{◌==◌, slice_set}
+use Rattle.std.proofs.lemmas.Bool.{eq-eqb}
+use Rattle.sv_world.specs.Slot.{IsUndone, heard_in}
+use Rattle.sv_world.specs.Worlds.{heard_by}
 
 eqb_suc : (a b : ℕ) → (suc a == suc b) ≡ (a == b)
 eqb_suc a b = ⊎_elim

@@ -1,38 +1,17 @@
 -- Every list of events keeps the invariant of what waits.
-use Rattle.std.proofs.Common.{◌≡◌, ℕ, ◌+◌, ◌≤◌, true, Option, Some, None, List, [], ◌∷◌, ◌++◌, length, arith, refl, sym, ap, ◌∙◌, subst, inl}
-use Rattle.std.specs.Prelude.{slice_get}
-use Rattle.std.specs.Option.{option_map}
-use Rattle.std.proofs.lemmas.Bool.{eqb-true}
-use Rattle.std.proofs.lemmas.Option.{same_Some}
-use Rattle.sv_model.specs.declared.key.Moment.{Moment}
-use Rattle.sv_model.specs.declared.key.Key.{Key}
-use Rattle.sv_model.specs.declared.key.Token.{Token}
-use Rattle.sv_model.specs.declared.input.Input.{Input}
-use Rattle.sv_model.specs.declared.input.Input.TheVariants.{Ask, Packet as Incoming, Poke, Tick, Move}
-use Rattle.sv_model.specs.declared.packet.Packet.{Packet}
-use Rattle.sv_model.specs.declared.commit.Commit.{Commit}
-use Rattle.sv_model.specs.declared.commit.Commit.TheVariants.{Served, Expired}
-use Rattle.sv_model.specs.declared.request.Request.{Request}
-use Rattle.sv_model.specs.Migration.{addressee}
-use Rattle.sv_model.specs.Container.{Meanings}
-use Rattle.sv_model.specs.Decision.{left}
-use Rattle.sv_model.specs.Trace.{commits_of, asked_of, asked_by, times, is_of, arrival_behind}
-use Rattle.sv_model.specs.Membership.{with_last}
-use Rattle.sv_model.specs.Outputs.{sends_in}
-use Rattle.sv_world.specs.declared.event.WorldEvent.{WorldEvent}
+use Rattle.sv_world.proofs.Prelude.{◌≡◌, ℕ, ◌≤◌, true, Option, Some, None, List, [], ◌∷◌, ◌++◌, arith, refl, sym, ap, ◌∙◌, subst, inl, slice_get, option_map}
+use Rattle.sv_world.proofs.Prelude.{eqb-true, same_Some, Moment, Key, Token, Input, Incoming, Move, Packet, Commit, Served, Expired, Request, addressee}
+use Rattle.sv_world.proofs.Prelude.{Meanings, left, commits_of, asked_of, asked_by, times, is_of, arrival_behind, with_last, sends_in, WorldEvent, request_in}
+use Rattle.sv_world.proofs.Prelude.{request_of, WasAsked, AllServed, Line, Call, store_of, KnowsAll, Cluster, Member, World, set_member, durable_at, stopped}
+use Rattle.sv_world.proofs.Prelude.{nothing_happened, items, commits_in, whole, torn, silent, call_of, is_unused, decision, happens, item_at, token_of_call}
+use Rattle.sv_world.proofs.Prelude.{setting_of, Waits, token_of, Durable}
+use Rattle.std.proofs.Common.{◌+◌, length}
+use Rattle.sv_model.specs.declared.input.Input.TheVariants.{Ask, Poke, Tick}
 use Rattle.sv_world.specs.declared.event.WorldEvent.TheVariants as event
-use Rattle.sv_world.specs.Headline.{request_in, request_of, WasAsked, AllServed}
-use Rattle.sv_world.specs.declared.line.Line.{Line}
-use Rattle.sv_world.specs.declared.call.Call.{Call}
-use Rattle.sv_world.specs.Sane.{store_of}
-use Rattle.sv_world.specs.World.{KnowsAll, Cluster, Member, World, set_member, durable_at, stopped, nothing_happened, items, commits_in, whole, torn, silent, call_of, is_unused, decision, happens, item_at, token_of_call, setting_of}
-use Rattle.sv_world.specs.Waits.{Waits}
 use Rattle.sv_world.proofs.Keys.{in_left, in_right}
 use Rattle.sv_world.proofs.Arrivals.{one_if, token_self, asked_snoc, arrival_snoc, arrival_new, items_snoc}
 use Rattle.sv_world.proofs.Waiting.{Patient, waits_still, whole_waits, silent_waits, stop_waits, boot_waits}
 use Rattle.sv_world.proofs.Patience.{HasCome, decide_patient}
-use Rattle.sv_model.specs.Serving.{token_of}
-use Rattle.sv_model.specs.NodeState.{Durable}
 use Rattle.sv_world.proofs.Events.{start_boot, IsSentIn, IsReady, behind}
 use Rattle.sv_world.proofs.Runs.{Inv, commits_snoc}
 

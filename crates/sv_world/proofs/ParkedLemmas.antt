@@ -1,25 +1,10 @@
 -- The requests that wait at a node stand in the order of their wants, and each waits for a key that a node of which it was told can
 -- answer for.
-use Rattle.std.proofs.Common.{◌≡◌, ◌⊎◌, ℕ, ◌+◌, ◌<◌, ◌≤◌, ◌==◌, ◌&&◌, true, false, Option, Some, None, List, [], ◌∷◌, arith, refl, sym, ap, ◌∙◌, subst, inl, inr, ⊎_elim, eq-eqb}
-use Rattle.std.specs.Prelude.{nat_le, IfSome}
-use Rattle.std.proofs.lemmas.Bool.{cond_both, leb-false, eqb-true, and_parts, true≢false}
-use Rattle.sv_model.specs.declared.key.Key.{Key}
-use Rattle.sv_model.specs.declared.node.Setting.{Setting}
-use Rattle.sv_model.specs.declared.node.Parked.{Parked}
-use Rattle.sv_model.specs.declared.node.Stage.TheVariants.{Past}
-use Rattle.sv_model.specs.declared.record.Record.{Record}
-use Rattle.sv_model.specs.Container.{Meanings, AllTouchOnlyHanded}
-use Rattle.sv_model.specs.NodeState.{Durable, is_unmade}
-use Rattle.sv_model.specs.Decision.{left}
-use Rattle.sv_model.specs.Membership.{In}
-use Rattle.sv_model.specs.Migration.{is_wanted}
-use Rattle.sv_model.specs.Replay.{applied_if}
-use Rattle.sv_model.specs.Fitting.{Fits}
-use Rattle.sv_model.specs.Waiting.{without}
-use Rattle.sv_world.specs.declared.event.WorldEvent.{WorldEvent}
-use Rattle.sv_world.specs.declared.call.Call.{Call}
-use Rattle.sv_world.specs.World.{Cluster, Member, World, set_member, nothing_happened, durable_at, stopped, decision, happens, run}
-use Rattle.sv_world.specs.Progress.{IsStep, AreSteps, setting_at}
+use Rattle.sv_world.proofs.Prelude.{◌≡◌, ℕ, ◌<◌, ◌≤◌, ◌==◌, true, false, Option, Some, None, List, [], ◌∷◌, arith, refl, sym, ap, ◌∙◌, subst, inl, inr, ⊎_elim}
+use Rattle.sv_world.proofs.Prelude.{eq-eqb, nat_le, IfSome, cond_both, leb-false, eqb-true, and_parts, true≢false, Key, Setting, Parked, Past, Record, Meanings}
+use Rattle.sv_world.proofs.Prelude.{AllTouchOnlyHanded, Durable, is_unmade, left, In, is_wanted, applied_if, Fits, without, WorldEvent, Call, Cluster, Member}
+use Rattle.sv_world.proofs.Prelude.{World, set_member, nothing_happened, durable_at, stopped, decision, happens, run, IsStep, AreSteps, setting_at}
+use Rattle.std.proofs.Common.{◌⊎◌, ◌+◌, ◌&&◌}
 use Rattle.sv_world.proofs.EpochLemmas.{ground, journal_at, queues_at}
 use Rattle.sv_world.proofs.Events.{IsReady, behind}
 use Rattle.sv_world.proofs.MovesLemmas.{Ground, next_up}

@@ -1,50 +1,17 @@
 -- Each step of a node keeps the invariant of what waits.
-use Rattle.std.proofs.Common.{◌≡◌, ◌≢◌, ◌⊎◌, ℕ, ◌+◌, ◌<◌, ◌≤◌, ◌==◌, ◌&&◌, Bool, true, false, cond, Option, Some, None, List, [], ◌∷◌, ◌++◌, map, length, arith, refl, sym, ap, ◌∙◌, subst, inl, inr, ⊎_elim}
-use Rattle.std.specs.Prelude.{nat_le, nat_lt, not, ◌||◌, is_some}
-use Rattle.std.specs.Option.{option_map}
-use Rattle.std.specs.List.{filter, filter_map, flat_map}
-use Rattle.std.specs.FinMap.{get, entries}
-use Rattle.std.proofs.lemmas.List.Elements.{filter_map-append}
-use Rattle.std.proofs.lemmas.Bool.{cond_both, eqb-true, leb-true, and_parts, true≢false}
-use Rattle.sv_model.specs.declared.key.Key.{Key}
-use Rattle.sv_model.specs.declared.key.Secret.{Secret}
-use Rattle.sv_model.specs.declared.key.Moment.{Moment}
-use Rattle.sv_model.specs.declared.key.Token.{Token}
-use Rattle.sv_model.specs.declared.request.Request.{Request}
-use Rattle.sv_model.specs.declared.session.Session.{Session}
-use Rattle.sv_model.specs.declared.node.Parked.{Parked}
-use Rattle.sv_model.specs.declared.state.KeyState.{KeyState}
-use Rattle.sv_model.specs.declared.state.KeyState.TheVariants.{Active, Sent, Gone, Ended}
-use Rattle.sv_model.specs.declared.state.TheConstants.{PARK_LIMIT}
-use Rattle.sv_model.specs.declared.packet.Packet.{Packet}
-use Rattle.sv_model.specs.declared.packet.Packet.TheVariants.{Want, Grant, Ack, No}
-use Rattle.sv_model.specs.declared.input.Input.{Input}
-use Rattle.sv_model.specs.declared.input.Input.TheVariants.{Ask, Packet as Incoming, Poke, Tick, Move}
-use Rattle.sv_model.specs.declared.output.Cause.{Cause}
-use Rattle.sv_model.specs.declared.output.Cause.TheVariants.{TableFull, ParkFull, WantsSpent, Deadline}
-use Rattle.sv_model.specs.declared.output.Output.{Output}
-use Rattle.sv_model.specs.declared.output.Output.TheVariants.{Refuse, Send, Moved}
-use Rattle.sv_model.specs.declared.commit.Commit.{Commit}
-use Rattle.sv_model.specs.declared.record.Record.TheVariants.{Gone as GoneRecord}
-use Rattle.sv_model.specs.Container.{Meanings, IsExcused}
-use Rattle.sv_model.specs.Keys.{same_key}
-use Rattle.sv_model.specs.NodeState.{Durable, Node, last_number, session_in, epoch_in, was_given, known, is_settled, is_unmade, is_dead, lacks_room, is_crowded}
-use Rattle.sv_model.specs.Decision.{Decision, idle, with_record}
-use Rattle.sv_model.specs.Serving.{held_in, answer_of, refused, no_birth, answered_unless, served}
-use Rattle.sv_model.specs.Waiting.{others, wants, parks, waits, on_ask, first_of, without, serve_first, serve_parked}
-use Rattle.sv_model.specs.Migration.{hands_over, says_no, no_if_unmade, on_want, takes_over, on_grant, on_ack, is_wanted, sender, addressee, is_ours, on_ours, on_packet, move_refused, on_move}
-use Rattle.sv_model.specs.Time.{is_late, is_quiet, first_over, expire, deadlines, wants_again, grant_again}
-use Rattle.sv_model.specs.Node.{decided}
-use Rattle.sv_model.proofs.KeyLemmas.{keys_tell}
-use Rattle.sv_model.proofs.EntryLemmas.{Entry}
-use Rattle.sv_model.specs.Membership.{In}
-use Rattle.sv_model.specs.Outputs.{packet_in, sends_in}
-use Rattle.sv_model.specs.Opening.{Opening}
-use Rattle.sv_world.specs.Life.{session_of}
-use Rattle.sv_world.specs.World.{Cluster, setting_of, Member}
-use Rattle.sv_world.specs.Sane.{Sane, IsUnmade, store_of}
-use Rattle.sv_model.proofs.KnownLemmas.{active_kept}
-use Rattle.sv_world.specs.Waits.{tok, boot_of, IsParked, Waits}
+use Rattle.sv_world.proofs.Prelude.{◌≡◌, ◌≢◌, ℕ, ◌<◌, ◌≤◌, ◌==◌, Bool, true, false, cond, Option, Some, None, List, [], ◌∷◌, ◌++◌, arith, refl, sym, ap, ◌∙◌}
+use Rattle.sv_world.proofs.Prelude.{subst, inl, inr, ⊎_elim, nat_le, nat_lt, not, ◌||◌, is_some, option_map, filter, filter_map, flat_map, get, entries}
+use Rattle.sv_world.proofs.Prelude.{filter_map-append, cond_both, eqb-true, leb-true, and_parts, true≢false, Key, Secret, Moment, Token, Request, Session}
+use Rattle.sv_world.proofs.Prelude.{Parked, KeyState, Active, Sent, Gone, Ended, PARK_LIMIT, Packet, Want, Grant, Ack, No, Input, Incoming, Move, Cause}
+use Rattle.sv_world.proofs.Prelude.{TableFull, ParkFull, WantsSpent, Deadline, Output, Refuse, Send, Moved, Commit, GoneRecord, Meanings, IsExcused, same_key}
+use Rattle.sv_world.proofs.Prelude.{Durable, Node, last_number, session_in, epoch_in, was_given, known, is_settled, is_unmade, is_dead, lacks_room, is_crowded}
+use Rattle.sv_world.proofs.Prelude.{Decision, idle, with_record, held_in, answer_of, refused, no_birth, answered_unless, served, others, wants, parks, waits}
+use Rattle.sv_world.proofs.Prelude.{on_ask, first_of, without, serve_first, serve_parked, hands_over, says_no, no_if_unmade, on_want, takes_over, on_grant}
+use Rattle.sv_world.proofs.Prelude.{on_ack, is_wanted, sender, addressee, is_ours, on_ours, on_packet, move_refused, on_move, is_late, is_quiet, first_over}
+use Rattle.sv_world.proofs.Prelude.{expire, deadlines, wants_again, grant_again, decided, keys_tell, Entry, In, packet_in, sends_in, Opening, session_of}
+use Rattle.sv_world.proofs.Prelude.{Cluster, setting_of, Member, Sane, IsUnmade, store_of, active_kept, tok, boot_of, IsParked, Waits}
+use Rattle.std.proofs.Common.{◌⊎◌, ◌+◌, ◌&&◌, map, length}
+use Rattle.sv_model.specs.declared.input.Input.TheVariants.{Ask, Poke, Tick}
 use Rattle.sv_world.proofs.Keys.{in_last}
 use Rattle.sv_world.proofs.OneKey.{is_unborn}
 use Rattle.sv_world.proofs.Runs.{disks_of}
@@ -256,9 +223,6 @@ module _ (m : Meanings) (c : Cluster) (members : ℕ → Member) (ps : List Pack
   grants_fit w ((k, Sent e u to) ∷ es) = (tt, grants_fit w es)
   grants_fit w ((k, Gone e) ∷ es) = grants_fit w es
   grants_fit w ((k, Ended e) ∷ es) = grants_fit w es
-
-  abbrev kept : List Parked
-  kept = filter (λ p. not (is_late (setting_of c n (boot_of (members n))) moment.steady p)) (members n).node.parked
 
   tick_fit : (d : Durable) → AllFit (store_of m cs).map ps n (boot_of (members n)) (members n).node.next_want (sends_in (deadlines (setting_of c n (boot_of (members n))) moment.steady (members n).node.parked ++ wants_again (setting_of c n (boot_of (members n))) (members n).node.durable (filter (λ p. not (is_late (setting_of c n (boot_of (members n))) moment.steady p)) (members n).node.parked) ++ filter_map (grant_again (setting_of c n (boot_of (members n)))) (entries d.keys)))
   tick_fit d =

@@ -1,25 +1,14 @@
 -- Two plans of what each start is started with make the same of events, where they say the same of the starts that these are of.
-use Rattle.std.proofs.Common.{◌≡◌, ℕ, ◌+◌, ◌<◌, ◌≤◌, ◌==◌, ◌&&◌, Bool, true, false, cond, Option, Some, None, List, [], ◌∷◌, arith, refl, sym, ap, ◌∙◌, subst, ⊎_elim}
-use Rattle.std.specs.Prelude.{not, nat_lt, IsSome}
-use Rattle.std.proofs.lemmas.Bool.{cond_both, cond-true, cases_lt, lt-ltb, le-ltb}
-use Rattle.sv_model.specs.Container.{Meanings}
-use Rattle.sv_model.specs.Decision.{left}
-use Rattle.sv_model.specs.NodeState.{Durable, last_number}
-use Rattle.sv_model.specs.Replay.{boot_record, applied}
-use Rattle.sv_model.specs.Trace.{asked_of}
-use Rattle.sv_world.specs.declared.call.Call.{Call}
-use Rattle.sv_world.specs.declared.event.WorldEvent.{WorldEvent}
-use Rattle.sv_world.specs.declared.event.WorldEvent.TheVariants.{Ask, Deliver, Poke, Tick, Move, Crash, Torn, Silent, Restart, TornRestart}
-use Rattle.sv_world.specs.declared.fault.WorldFault.{WorldFault}
-use Rattle.sv_world.specs.declared.action.Action.{Action}
-use Rattle.sv_world.specs.declared.task.Task.{Task}
+use Rattle.sv_world.proofs.Prelude.{◌≡◌, ℕ, ◌<◌, ◌≤◌, ◌==◌, Bool, true, false, cond, Option, Some, None, List, [], ◌∷◌, arith, refl, sym, ap, ◌∙◌, subst}
+use Rattle.sv_world.proofs.Prelude.{⊎_elim, not, nat_lt, IsSome, cond_both, cond-true, cases_lt, lt-ltb, le-ltb, Meanings, left, Durable, last_number}
+use Rattle.sv_world.proofs.Prelude.{boot_record, applied, asked_of, Call, WorldEvent, Ask, Deliver, Poke, Tick, Crash, Torn, Silent, Restart, TornRestart}
+use Rattle.sv_world.proofs.Prelude.{WorldFault, Action, Task, Done, deed, wants_up, number_for, heading_at, halted, booted, start_by, step_fault, call_fault}
+use Rattle.sv_world.proofs.Prelude.{start_fault, stop_fault, fault_of, action_of, since, may_come, Cluster, Member, World, durable_at, set_member, stopped}
+use Rattle.sv_world.proofs.Prelude.{started, setting_of, items, call_of, decision, token_of_call, is_unused, is_there, happens, run}
+use Rattle.std.proofs.Common.{◌+◌, ◌&&◌}
+use Rattle.sv_world.specs.declared.event.WorldEvent.TheVariants.{Move}
 use Rattle.sv_world.specs.declared.task.Task.TheVariants as task
-use Rattle.sv_world.specs.Deed.{Done, deed, wants_up, number_for, heading_at, halted, booted, start_by}
-use Rattle.sv_world.specs.Faults.{step_fault, call_fault, start_fault, stop_fault, fault_of}
-use Rattle.sv_world.specs.Action.{action_of}
-use Rattle.sv_world.specs.Planned.{since_at, since}
-use Rattle.sv_world.specs.Sent.{may_come}
-use Rattle.sv_world.specs.World.{Cluster, Member, World, durable_at, set_member, stopped, started, setting_of, items, call_of, decision, token_of_call, is_unused, is_there, happens, run}
+use Rattle.sv_world.specs.Planned.{since_at}
 use Rattle.sv_world.proofs.Events.{behind, start_boot}
 use Rattle.sv_world.proofs.FaultLemmas.{faulty}
 use Rattle.sv_world.proofs.ActionLemmas.{Goes, done_by, goes, asks}

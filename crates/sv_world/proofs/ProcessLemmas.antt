@@ -1,20 +1,12 @@
 -- What each process does by itself, and a network that makes no packet up, are calls of nodes over their disks.
-use Rattle.std.proofs.Common.{◌≡◌, ⊎_elim, ℕ, ◌<◌, ◌≤◌, ◌==◌, Bool, true, false, cond, List, [], ◌∷◌, refl, subst, eq-eqb, arith}
-use Rattle.std.specs.List.{AllByRecursion}
-use Rattle.std.proofs.lemmas.Bool.{eqb-true, cond-true}
-use Rattle.sv_model.specs.declared.input.Input.{Input}
+use Rattle.sv_world.proofs.Prelude.{◌≡◌, ⊎_elim, ℕ, ◌<◌, ◌≤◌, ◌==◌, Bool, true, false, cond, List, [], ◌∷◌, refl, subst, eq-eqb, arith, AllByRecursion}
+use Rattle.sv_world.proofs.Prelude.{eqb-true, cond-true, Input, Setting, Packet, Meanings, EngineMeaning, In, Open, Step, Unsaid, Compact, Stop, Given, Refused}
+use Rattle.sv_world.proofs.Prelude.{Cut, runs_behind, Turn, Stand, IsAbove, number_in, RiseIn, numbers_in, RisesAt, lowest_behind, Rise, NodeCall, Seen}
+use Rattle.sv_world.proofs.Prelude.{start_at, IsNew, AllMayCome, MayCome, IsCall, AreCalls, with_number, numbers_behind, all_numbers, nothing_called, turn_of}
+use Rattle.sv_world.proofs.Prelude.{turns_at, BringAll, BringsSent, BringSent, AreOfProcesses, AreTurnsBy, Cluster, Member, setting_of}
 use Rattle.sv_model.specs.declared.input.Input.TheVariants as input
-use Rattle.sv_model.specs.declared.node.Setting.{Setting}
-use Rattle.sv_model.specs.declared.packet.Packet.{Packet}
-use Rattle.sv_model.specs.Container.{Meanings}
-use Rattle.sv_model.specs.Engine.{EngineMeaning}
-use Rattle.sv_model.specs.Membership.{In}
-use Rattle.sv_node.specs.Call.{Call, Open, Step, Unsaid, Compact, Stop, Given, Done, Refused, Cut, runs_behind}
-use Rattle.sv_node.specs.History.{Turn, Stand, IsAbove, number_in, RiseIn, numbers_in, RisesAt, lowest_behind, Rise}
-use Rattle.sv_world.specs.Disks.{NodeCall, Seen, start_at, IsNew, AllMayCome, MayCome, IsCall, AreCalls, with_number, numbers_behind, all_numbers, behind, nothing_called}
-use Rattle.sv_world.specs.Processes.{turn_of, turns_at, BringAll, BringsSent, BringSent, AreOfProcesses}
-use Rattle.sv_world.specs.Starts.{AreTurnsBy}
-use Rattle.sv_world.specs.World.{Cluster, Member, setting_of}
+use Rattle.sv_node.specs.Call.{Call, Done}
+use Rattle.sv_world.specs.Disks.{behind}
 
 -- ---- numbers
 

@@ -1,39 +1,13 @@
 -- What progress asks for can be met: a request waits at node 1 for a session that node 0 has never given out, and three fair rounds
 -- follow.
-use Rattle.std.proofs.Common.{◌≡◌, ◌≢◌, ℕ, zero, suc, ◌<◌, ◌≤◌, true, false, Some, None, List, [], ◌∷◌, ◌++◌, length, arith, refl, sym, ap, ◌∙◌, subst, inl, inr, ⊎_elim}
-use Rattle.std.specs.FinMap.{empty, get-empty, len-empty}
-use Rattle.std.specs.Prelude.{slice_get}
-use Rattle.std.proofs.lemmas.Bool.{cases_eq, true≢false}
-use Rattle.sv_model.specs.declared.key.Key.{Key}
-use Rattle.sv_model.specs.declared.key.Moment.{Moment}
-use Rattle.sv_model.specs.declared.key.Secret.{Secret}
-use Rattle.sv_model.specs.declared.node.Parked.{Parked}
-use Rattle.sv_model.specs.declared.packet.Packet.{Packet}
-use Rattle.sv_model.specs.declared.packet.Packet.TheVariants.{Want, No}
-use Rattle.sv_model.specs.declared.input.Input.{Input}
+use Rattle.sv_world.proofs.Prelude.{◌≡◌, ◌≢◌, ℕ, ◌<◌, ◌≤◌, true, false, Some, None, List, [], ◌∷◌, ◌++◌, arith, refl, sym, ap, ◌∙◌, subst, inl, inr, ⊎_elim}
+use Rattle.sv_world.proofs.Prelude.{empty, get-empty, len-empty, slice_get, cases_eq, true≢false, Key, Moment, Secret, Parked, Packet, Want, No, Input, Request}
+use Rattle.sv_world.proofs.Prelude.{Response, KeyState, Active, Sent, Untouched, Absent, Meanings, always, key_cmp, In, Durable, Node, known, is_settled}
+use Rattle.sv_world.proofs.Prelude.{lacks_room, Decision, left, decided, sends_in, blank, no_entries, states, rules_for, WorldEvent, Ask, Deliver, Tick}
+use Rattle.sv_world.proofs.Prelude.{Restart, Call, Cluster, Member, World, steady, stopped, setting_of, set_member, durable_at, nothing_happened, whole}
+use Rattle.sv_world.proofs.Prelude.{decision, happens, run, AllRun, HasRoomAt, HasRoom, Round, ticked, behind, IsRound, AreFair, CanCome}
+use Rattle.std.proofs.Common.{zero, suc, length}
 use Rattle.sv_model.specs.declared.input.Input.TheVariants as input
-use Rattle.sv_model.specs.declared.request.Request.{Request}
-use Rattle.sv_model.specs.declared.response.Response.{Response}
-use Rattle.sv_model.specs.declared.state.KeyState.{KeyState}
-use Rattle.sv_model.specs.declared.state.KeyState.TheVariants.{Active, Sent}
-use Rattle.sv_model.specs.declared.outcome.Fate.TheVariants.{Untouched}
-use Rattle.sv_model.specs.declared.outcome.Birth.TheVariants.{Absent}
-use Rattle.sv_model.specs.Container.{Meanings, always}
-use Rattle.sv_model.specs.Keys.{key_cmp}
-use Rattle.sv_model.specs.Membership.{In}
-use Rattle.sv_model.specs.NodeState.{Durable, Node, known, is_settled, lacks_room}
-use Rattle.sv_model.specs.Decision.{Decision, left}
-use Rattle.sv_model.specs.Node.{decided}
-use Rattle.sv_model.specs.Outputs.{sends_in}
-use Rattle.sv_model.specs.Replay.{blank}
-use Rattle.sv_model.proofs.EntryLemmas.{no_entries}
-use Rattle.sv_world.specs.Headline.{states}
-use Rattle.sv_world.specs.Rules.{rules_for}
-use Rattle.sv_world.specs.declared.event.WorldEvent.{WorldEvent}
-use Rattle.sv_world.specs.declared.event.WorldEvent.TheVariants.{Ask, Deliver, Tick, Restart}
-use Rattle.sv_world.specs.declared.call.Call.{Call}
-use Rattle.sv_world.specs.World.{Cluster, Member, World, steady, stopped, setting_of, set_member, durable_at, nothing_happened, whole, decision, happens, run}
-use Rattle.sv_world.specs.Progress.{AllRun, HasRoomAt, HasRoom, Round, ticked, behind, IsRound, AreFair, CanCome}
 use Rattle.sv_world.proofs.ProgressLemmas.{ready_by, stepped_by}
 use Rattle.sv_world.proofs.RunningLemmas.{delivery, runs_one}
 use Rattle.sv_world.proofs.Waiting.{by_node}

@@ -1,30 +1,16 @@
 -- While nodes run, nobody is forgotten, and a tick ends all waiting whose time has come.
-use Rattle.std.proofs.Common.{◌≡◌, ◌≢◌, ℕ, ◌+◌, Bool, true, false, Option, Some, None, List, [], ◌∷◌, ◌++◌, arith, refl, sym, ap, ◌∙◌, subst, ⊎_elim}
-use Rattle.std.specs.Prelude.{not}
-use Rattle.std.specs.Option.{option_to_list}
-use Rattle.std.specs.List.{filter, filter_map}
-use Rattle.std.proofs.lemmas.Bool.{cond_both, cond-true, and_from, lt-ltb, leb-false}
+use Rattle.sv_world.proofs.Prelude.{◌≡◌, ◌≢◌, ℕ, Bool, true, false, Option, Some, None, List, [], ◌∷◌, ◌++◌, arith, refl, sym, ap, ◌∙◌, subst, ⊎_elim, not}
+use Rattle.sv_world.proofs.Prelude.{option_to_list, filter, filter_map, cond_both, cond-true, and_from, lt-ltb, leb-false, is_late, Moment, Token, Packet}
+use Rattle.sv_world.proofs.Prelude.{Parked, Setting, Meanings, left, commits_of, asked_of, refused_of, served_of, refusal_in, times, is_of, In, token_of}
+use Rattle.sv_world.proofs.Prelude.{WorldEvent, Ask, Deliver, Poke, Tick, Crash, Torn, Silent, Restart, TornRestart, Line, Call, may_come, Cluster, Member}
+use Rattle.sv_world.proofs.Prelude.{World, set_member, setting_of, durable_at, items, commits_in, whole, decision, steps, happens, run, item_at, is_ready}
+use Rattle.sv_world.proofs.Prelude.{is_there, is_unused, call_of, token_of_call, boot_of, IsStep, AreSteps, waiting, accounted_in, IsKept, setting_at}
+use Rattle.sv_world.proofs.Prelude.{nodes_told, Runs, NobodyIsForgotten, TicksEndWaiting}
+use Rattle.std.proofs.Common.{◌+◌}
 use Rattle.sv_model.specs.declared.input.Input.TheVariants as input
-use Rattle.sv_model.specs.Time.{is_late}
-use Rattle.sv_model.specs.declared.key.Moment.{Moment}
-use Rattle.sv_model.specs.declared.key.Token.{Token}
-use Rattle.sv_model.specs.declared.packet.Packet.{Packet}
-use Rattle.sv_model.specs.declared.node.Parked.{Parked}
-use Rattle.sv_model.specs.declared.node.Setting.{Setting}
-use Rattle.sv_model.specs.Container.{Meanings}
-use Rattle.sv_model.specs.Decision.{left}
-use Rattle.sv_model.specs.Trace.{commits_of, asked_of, refused_of, served_of, refusal_in, times, is_of}
-use Rattle.sv_model.specs.Membership.{In}
-use Rattle.sv_model.specs.Serving.{token_of}
-use Rattle.sv_world.specs.declared.event.WorldEvent.{WorldEvent}
-use Rattle.sv_world.specs.declared.event.WorldEvent.TheVariants.{Ask, Deliver, Poke, Tick, Move, Crash, Torn, Silent, Restart, TornRestart}
-use Rattle.sv_world.specs.declared.line.Line.{Line}
-use Rattle.sv_world.specs.declared.call.Call.{Call}
-use Rattle.sv_world.specs.Sent.{may_come}
-use Rattle.sv_world.specs.World.{Cluster, Member, World, set_member, setting_of, durable_at, items, commits_in, whole, decision, steps, happens, run, item_at, is_ready, is_there, is_unused, call_of, token_of_call}
-use Rattle.sv_world.specs.Waits.{boot_of}
-use Rattle.sv_world.specs.Progress.{IsStep, AreSteps, waiting, accounted_in, IsKept, setting_at, nodes_told, Runs, NobodyIsForgotten, TicksEndWaiting}
+use Rattle.sv_world.specs.declared.event.WorldEvent.TheVariants.{Move}
 use Rattle.sv_world.proofs.Events.{IsReady, readies}
+use Rattle.sv_world.proofs.Keys.{not_true}
 use Rattle.sv_world.proofs.Arrivals.{one_if, times_one, asked_snoc, items_snoc}
 use Rattle.sv_world.proofs.Waiting.{by_node}
 use Rattle.sv_world.proofs.Thrift.{waiting_none}
@@ -100,10 +86,6 @@ module _ (m : Meanings) (c : Cluster) where
   nobody_is_forgotten w es h = (run_kept w es h).count
 
 -- ---- a tick
-
-not_true : (b : Bool) → not b ≡ true → b ≡ false
-not_true true e = absurd (let no : false ≡ true = e in cc)
-not_true false e = refl
 
 stays_early : (late : Parked → Bool) (ps : List Parked) (p : Parked) → In p (filter (λ q. not (late q)) ps) → late p ≡ false
 stays_early late [] p i = absurd i

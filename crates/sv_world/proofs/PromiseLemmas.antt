@@ -1,9 +1,5 @@
 -- All that may be relied on while nodes run, of each world that events lead to.
-use Rattle.std.proofs.Common.{List}
-use Rattle.sv_model.specs.Container.{Meanings, AllTouchOnlyHanded}
-use Rattle.sv_world.specs.declared.event.WorldEvent.{WorldEvent}
-use Rattle.sv_world.specs.World.{Cluster, nothing_happened, run}
-use Rattle.sv_world.specs.Progress.{IsProgress}
+use Rattle.sv_world.proofs.Prelude.{List, Meanings, AllTouchOnlyHanded, WorldEvent, Cluster, nothing_happened, run, IsProgress}
 use Rattle.sv_world.proofs.EpochLemmas.{epochs_rise, stays_at_hand}
 use Rattle.sv_world.proofs.ExpiryLemmas.{ticks_end_sessions}
 use Rattle.sv_world.proofs.ParkedLemmas.{Both, run_both, first_both}

@@ -1,39 +1,15 @@
 -- What a step makes of the requests that wait at its node, and what it puts out where a session comes or goes.
-use Rattle.std.proofs.Common.{◌≡◌, ◌⊎◌, ℕ, ◌+◌, ◌<◌, ◌≤◌, ◌==◌, ◌&&◌, Bool, true, false, cond, Option, Some, None, List, [], ◌∷◌, ◌++◌, length, arith, refl, sym, subst, inl, inr, ⊎_elim}
-use Rattle.std.specs.Prelude.{not, nat_le, nat_lt, ◌||◌}
-use Rattle.std.specs.List.{filter, filter_map}
-use Rattle.std.specs.FinMap.{entries}
-use Rattle.std.proofs.lemmas.Bool.{cond_both, and_parts, eqb-true, leb-false}
-use Rattle.sv_model.specs.declared.key.Key.{Key}
-use Rattle.sv_model.specs.declared.key.Secret.{Secret}
-use Rattle.sv_model.specs.declared.key.Moment.{Moment}
-use Rattle.sv_model.specs.declared.request.Request.{Request}
-use Rattle.sv_model.specs.declared.session.Session.{Session}
-use Rattle.sv_model.specs.declared.node.Setting.{Setting}
-use Rattle.sv_model.specs.declared.node.Parked.{Parked}
-use Rattle.sv_model.specs.declared.state.KeyState.{KeyState}
-use Rattle.sv_model.specs.declared.state.KeyState.TheVariants.{Active, Sent, Gone, Ended}
-use Rattle.sv_model.specs.declared.state.TheConstants.{PARK_LIMIT}
-use Rattle.sv_model.specs.declared.packet.Packet.{Packet}
-use Rattle.sv_model.specs.declared.packet.Packet.TheVariants.{Want, Grant, Ack, No}
-use Rattle.sv_model.specs.declared.input.Input.{Input}
-use Rattle.sv_model.specs.declared.input.Input.TheVariants.{Ask, Packet as Incoming, Poke, Tick, Move}
-use Rattle.sv_model.specs.declared.output.Cause.{Cause}
-use Rattle.sv_model.specs.declared.output.Cause.TheVariants.{TableFull, ParkFull, WantsSpent}
-use Rattle.sv_model.specs.declared.output.Output.{Output}
-use Rattle.sv_model.specs.declared.output.Output.TheVariants.{Send, Moved}
-use Rattle.sv_model.specs.declared.record.Record.TheVariants.{Sent as SentRecord, Taken, Gone as GoneRecord}
-use Rattle.sv_model.specs.Engine.{EngineMeaning}
-use Rattle.sv_model.specs.NodeState.{Durable, Node, last_number, epoch_in, known, is_settled, is_unmade, is_dead, lacks_room, is_crowded}
-use Rattle.sv_model.specs.Decision.{Decision, idle, with_record}
-use Rattle.sv_model.specs.Serving.{answer_of, refused, no_birth, answered_unless, served}
-use Rattle.sv_model.specs.Waiting.{parks, waits, on_ask, first_of, without, serve_first, serve_parked}
-use Rattle.sv_model.specs.Migration.{hands_over, says_no, no_if_unmade, on_want, takes_over, on_grant, on_ack, is_wanted, addressee, sender, is_ours, on_ours, on_packet, move_refused, on_move}
-use Rattle.sv_model.specs.Time.{is_late, first_over, expire, deadlines, wants_again, grant_again}
-use Rattle.sv_model.specs.Node.{decided}
-use Rattle.sv_model.specs.Membership.{In}
-use Rattle.sv_model.specs.Outputs.{sends_in}
-use Rattle.sv_model.proofs.EntryLemmas.{Entry}
+use Rattle.sv_world.proofs.Prelude.{◌≡◌, ℕ, ◌<◌, ◌≤◌, ◌==◌, Bool, true, false, cond, Option, Some, None, List, [], ◌∷◌, ◌++◌, arith, refl, sym, subst, inl, inr}
+use Rattle.sv_world.proofs.Prelude.{⊎_elim, not, nat_le, nat_lt, ◌||◌, filter, filter_map, entries, cond_both, and_parts, eqb-true, leb-false, Key, Secret}
+use Rattle.sv_world.proofs.Prelude.{Moment, Request, Session, Setting, Parked, KeyState, Active, Sent, Gone, Ended, PARK_LIMIT, Packet, Want, Grant, Ack, No}
+use Rattle.sv_world.proofs.Prelude.{Input, Incoming, Move, Cause, TableFull, ParkFull, WantsSpent, Output, Send, Moved, SentRecord, Taken, GoneRecord}
+use Rattle.sv_world.proofs.Prelude.{EngineMeaning, Durable, Node, last_number, epoch_in, known, is_settled, is_unmade, is_dead, lacks_room, is_crowded}
+use Rattle.sv_world.proofs.Prelude.{Decision, idle, with_record, answer_of, refused, no_birth, answered_unless, served, parks, waits, on_ask, first_of, without}
+use Rattle.sv_world.proofs.Prelude.{serve_first, serve_parked, hands_over, says_no, no_if_unmade, on_want, takes_over, on_grant, on_ack, is_wanted, addressee}
+use Rattle.sv_world.proofs.Prelude.{sender, is_ours, on_ours, on_packet, move_refused, on_move, is_late, first_over, expire, deadlines, wants_again}
+use Rattle.sv_world.proofs.Prelude.{grant_again, decided, In, sends_in, Entry}
+use Rattle.std.proofs.Common.{◌⊎◌, ◌+◌, ◌&&◌, length}
+use Rattle.sv_model.specs.declared.input.Input.TheVariants.{Ask, Poke, Tick}
 use Rattle.sv_world.proofs.Events.{IsSentIn}
 use Rattle.sv_world.proofs.Keys.{in_last}
 use Rattle.sv_world.proofs.Waiting.{in_without, in_filter}

@@ -1,29 +1,15 @@
 -- What has happened in a world in code, one after the other, and the theorem of it.
-use Rattle.std.proofs.Common.{◌≡◌, ℕ, ◌+◌, ◌<◌, ◌≤◌, Option, Some, None, List, [], ◌∷◌, ◌++◌, map, take, length, arith, refl, sym, ap, ◌∙◌, subst, ⊎_elim, append-nil, append_assoc}
-use Rattle.std.specs.Prelude.{slice_get, Result, Ok, Err, IfErr, OnOk}
-use Rattle.std.specs.Option.{option_map}
-use Rattle.std.proofs.lemmas.Bool.{cases_lt}
-use Rattle.std.proofs.lemmas.List.{map-append}
-use Rattle.std.proofs.lemmas.List.Concat.{flat_map-append}
-use Rattle.std.proofs.lemmas.Option.{same_Some}
-use Rattle.sv_model.specs.declared.event.Told.{Told}
-use Rattle.sv_model.specs.declared.node.Setting.{Setting}
-use Rattle.sv_model.specs.Container.{Meanings, always}
-use Rattle.sv_model.specs.Engine.{EngineMeaning, heard_all}
-use Rattle.sv_world.specs.declared.event.WorldEvent.{WorldEvent}
-use Rattle.sv_world.specs.declared.fault.WorldFault.{WorldFault}
-use Rattle.sv_world.specs.declared.line.Line.{Line}
-use Rattle.sv_world.specs.declared.rules.Rules.{Rules}
+use Rattle.sv_world.proofs.Prelude.{◌≡◌, ℕ, ◌<◌, ◌≤◌, Option, Some, None, List, [], ◌∷◌, ◌++◌, arith, refl, sym, ap, ◌∙◌, subst, ⊎_elim, append-nil}
+use Rattle.sv_world.proofs.Prelude.{append_assoc, slice_get, Result, Ok, Err, IfErr, option_map, cases_lt, map-append, flat_map-append, same_Some, Told}
+use Rattle.sv_world.proofs.Prelude.{Setting, Meanings, always, EngineMeaning, heard_all, WorldEvent, WorldFault, Line, Rules, fault_of, IsHeadline, AreWithin}
+use Rattle.sv_world.proofs.Prelude.{HaveFitted, IsProgress, Cluster, World, steady, setting_of, run, nothing_happened, AlwaysKnows, settings_by, world_of}
+use Rattle.sv_world.proofs.Prelude.{size_of, cluster_of, meanings_of, heard_of, AllMean, by_node, events_in, HaveHappened, IsStill, IsRefused, refusal, told_at}
+use Rattle.sv_world.proofs.Prelude.{since, IsPlanned, Ran}
+use Rattle.std.proofs.Common.{◌+◌, map, take, length}
+use Rattle.std.specs.Prelude.{OnOk}
 use Rattle.sv_world.specs.declared.running.RunFault.{RunFault}
 use Rattle.sv_world.specs.declared.world.World.{World as Nodes}
-use Rattle.sv_world.specs.Faults.{fault_of}
-use Rattle.sv_world.specs.Headline.{IsHeadline}
-use Rattle.sv_world.specs.Journals.{AreWithin, HaveFitted}
-use Rattle.sv_world.specs.Progress.{IsProgress}
-use Rattle.sv_world.specs.World.{Cluster, World, steady, setting_of, run, nothing_happened, AlwaysKnows}
-use Rattle.sv_world.specs.Worlds.{settings_by, world_of, size_of, cluster_of, meanings_of, heard_of, AllMean}
-use Rattle.sv_world.specs.Happened.{by_node, events_in, HaveHappened, IsStill, IsRefused, HaveStopped, refusal, told_in, told_at}
-use Rattle.sv_world.specs.Planned.{since, IsPlanned, Ran}
+use Rattle.sv_world.specs.Happened.{HaveStopped, told_in}
 use Rattle.sv_world.proofs.Events.{run_more}
 use Rattle.sv_world.proofs.HappenedLemmas.{told_there}
 use Rattle.sv_world.proofs.HeadlineLemmas.{headline, same, kept}

@@ -1,30 +1,13 @@
 -- What is durable at a node is its records, one after the other.
-use Rattle.std.proofs.Common.{◌≡◌, ◌≢◌, ℕ, ◌+◌, ◌==◌, true, cond, Option, Some, None, List, [], ◌∷◌, ◌++◌, refl, sym, ap, ◌∙◌, subst, ⊎_elim, eq-eqb, append-nil}
-use Rattle.std.specs.Option.{option_to_list}
-use Rattle.std.proofs.lemmas.Bool.{cases_eq, ne_eqb, cond_both, cond-true, cond-false}
-use Rattle.std.proofs.lemmas.List.Concat.{flat_map-append}
-use Rattle.sv_model.specs.declared.packet.Packet.{Packet}
-use Rattle.sv_model.specs.declared.record.Record.{Record}
-use Rattle.sv_model.specs.declared.record.Record.TheVariants.{Boot, Forgets}
-use Rattle.sv_model.specs.Container.{Meanings, AllTouchOnlyHanded}
-use Rattle.sv_model.specs.NodeState.{Durable}
-use Rattle.std.specs.Prelude.{IfSome}
-use Rattle.sv_model.specs.declared.node.Setting.{Setting}
-use Rattle.sv_model.specs.declared.node.Stage.{Stage}
-use Rattle.sv_model.specs.declared.node.Stage.TheVariants.{Blank}
-use Rattle.sv_model.specs.Replay.{blank, boot_record, applied, applied_if, replayed}
-use Rattle.sv_model.specs.Fitting.{Fits, AllFit, stage_behind}
-use Rattle.sv_model.proofs.JournalLemmas.{journaled}
-use Rattle.sv_model.specs.Decision.{left}
-use Rattle.sv_world.specs.declared.event.WorldEvent.{WorldEvent}
-use Rattle.sv_world.specs.declared.line.Line.{Line}
-use Rattle.sv_world.specs.declared.call.Call.{Call}
-use Rattle.sv_world.specs.declared.rules.Rules.{Rules}
-use Rattle.sv_world.specs.Rules.{setting_by}
-use Rattle.sv_world.specs.World.{Cluster, setting_of, Member, World, set_member, durable_at, stopped, nothing_happened, records_at, decision, happens, run}
+use Rattle.sv_world.proofs.Prelude.{◌≡◌, ◌≢◌, ℕ, ◌==◌, true, cond, Option, Some, None, List, [], ◌∷◌, ◌++◌, refl, sym, ap, ◌∙◌, subst, ⊎_elim, eq-eqb}
+use Rattle.sv_world.proofs.Prelude.{append-nil, option_to_list, cases_eq, ne_eqb, cond_both, cond-true, cond-false, flat_map-append, Packet, Record, Boot}
+use Rattle.sv_world.proofs.Prelude.{Forgets, Meanings, AllTouchOnlyHanded, Durable, IfSome, Setting, Stage, Blank, blank, boot_record, applied, applied_if}
+use Rattle.sv_world.proofs.Prelude.{replayed, Fits, AllFit, stage_behind, journaled, left, WorldEvent, Line, Call, Rules, setting_by, Cluster, setting_of}
+use Rattle.sv_world.proofs.Prelude.{Member, World, set_member, durable_at, stopped, nothing_happened, records_at, decision, happens}
+use Rattle.std.proofs.Common.{◌+◌}
 use Rattle.sv_world.proofs.Waiting.{by_node}
-use Rattle.sv_world.proofs.Events.{behind, behind_all}
-use Rattle.sv_world.proofs.Runs.{Inv, sound_at, happens_keeps}
+use Rattle.sv_world.proofs.Events.{behind}
+use Rattle.sv_world.proofs.Runs.{Inv, sound_at}
 
 pub record Kept (wide : Rules) (w : World) : Type 0 where
   pub replay : (n : ℕ) → durable_at w n ≡ replayed blank (records_at n w.trace)
@@ -89,9 +72,6 @@ module _ (m : Meanings) (touches : AllTouchOnlyHanded m) (c : Cluster) (wide : R
     halt_by = λ n asked _. grows wide w n (stopped (durable_at w n)) _ w.packets refl refl (λ stage. tt) j;
     boots_by = λ n p may none same. grows wide w n p _ w.packets refl same (if_wider n ((durable_at w n).boot + 1) (durable_at w n) (Some (boot_record (setting_of c n ((durable_at w n).boot + 1)) (durable_at w n))) (start_fits (setting_of c n ((durable_at w n).boot + 1)) (durable_at w n))) j;
   })
-
-  pub run_kept : (w : World) (es : List WorldEvent) → Inv m c w → Kept wide w → Kept wide (run m c w es)
-  run_kept w es inv j = behind_all m c (Inv m c) (Kept wide) (happens_keeps m touches c) happens_kept w es inv j
 
 pub first_kept : (wide : Rules) → Kept wide nothing_happened
 first_kept wide = record { replay = λ n. refl; fits = λ n. tt }

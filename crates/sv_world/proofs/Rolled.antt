@@ -1,17 +1,9 @@
 -- Where nodes are started in turn, each that runs was told of all whose sessions live.
-use Rattle.std.proofs.Common.{◌≡◌, ◌≢◌, ℕ, ◌+◌, ◌<◌, ◌≤◌, true, false, Option, Some, None, List, [], ◌∷◌, arith, refl, sym, ap, ◌∙◌, subst, inl, inr, ⊎_elim}
-use Rattle.std.specs.Prelude.{IfSome}
-use Rattle.std.proofs.lemmas.Bool.{cases_lt}
-use Rattle.std.proofs.lemmas.Option.{same_Some}
-use Rattle.sv_model.specs.Container.{Meanings, AllTouchOnlyHanded}
-use Rattle.sv_model.specs.NodeState.{Durable}
-use Rattle.sv_model.specs.Decision.{left}
-use Rattle.sv_world.specs.declared.call.Call.{Call}
-use Rattle.sv_world.specs.declared.event.WorldEvent.{WorldEvent}
-use Rattle.sv_world.specs.Life.{session_of}
-use Rattle.sv_world.specs.Rolling.{start_in, IsTurn, AreInTurn}
-use Rattle.sv_world.specs.Sane.{IsUnmade}
-use Rattle.sv_world.specs.World.{Cluster, Member, World, durable_at, set_member, stopped, setting_of, decision, happens, nothing_happened, KnowsAll, AlwaysKnows}
+use Rattle.sv_world.proofs.Prelude.{◌≡◌, ◌≢◌, ℕ, ◌<◌, ◌≤◌, true, false, Option, Some, None, List, [], ◌∷◌, arith, refl, sym, ap, ◌∙◌, subst, inl, inr, ⊎_elim}
+use Rattle.sv_world.proofs.Prelude.{IfSome, cases_lt, same_Some, Meanings, AllTouchOnlyHanded, Durable, left, Call, WorldEvent, session_of, start_in, IsTurn}
+use Rattle.sv_world.proofs.Prelude.{AreInTurn, IsUnmade, Cluster, Member, World, durable_at, set_member, stopped, setting_of, decision, happens}
+use Rattle.sv_world.proofs.Prelude.{nothing_happened, KnowsAll, AlwaysKnows}
+use Rattle.std.proofs.Common.{◌+◌}
 use Rattle.sv_world.proofs.Events.{behind, start_boot}
 use Rattle.sv_world.proofs.OneKey.{is_unborn}
 use Rattle.sv_world.proofs.Runs.{Inv, disks_of, happens_keeps, at_first}

@@ -1,30 +1,18 @@
 -- A session that was sent off arrives in a round, and its sender is done with it in two.
-use Rattle.std.proofs.Common.{◌≡◌, ◌≢◌, ◌⊎◌, ℕ, ◌+◌, ◌<◌, ◌≤◌, Bool, true, false, Option, Some, None, List, [], ◌∷◌, length, arith, refl, sym, ap, ◌∙◌, subst, inl, inr, ⊎_elim}
-use Rattle.std.specs.Prelude.{slice_get}
-use Rattle.std.proofs.lemmas.Option.{slice_get_within}
-use Rattle.std.proofs.lemmas.Bool.{cases_eq, cases_lt}
-use Rattle.sv_model.specs.declared.key.Key.{Key}
-use Rattle.sv_model.specs.declared.key.Moment.{Moment}
-use Rattle.sv_model.specs.declared.session.Session.{Session}
-use Rattle.sv_model.specs.declared.state.KeyState.{KeyState}
-use Rattle.sv_model.specs.declared.state.KeyState.TheVariants.{Active, Sent, Gone, Ended}
-use Rattle.sv_model.specs.declared.packet.Packet.TheVariants.{Grant, Ack}
-use Rattle.sv_model.specs.Container.{Meanings, AllTouchOnlyHanded}
-use Rattle.sv_model.specs.NodeState.{epoch_in, is_unmade}
-use Rattle.sv_model.specs.Membership.{In}
-use Rattle.sv_world.specs.declared.event.WorldEvent.{WorldEvent}
-use Rattle.sv_world.specs.declared.event.WorldEvent.TheVariants.{Deliver, Tick}
-use Rattle.sv_world.specs.Headline.{states}
-use Rattle.sv_world.specs.Life.{Phase, Unborn, Here, Away, Over, Stands, IsBelow, IsBehind}
-use Rattle.sv_world.specs.World.{Cluster, World, durable_at, happens, run}
-use Rattle.sv_world.specs.Progress.{IsStep, AreSteps, setting_at, AllRun, HasRoom, IsOff, HasArrived, Round, ticked, behind, IsRound, ArrivesByTick, ArrivesInARound, IsDoneInTwo}
+use Rattle.sv_world.proofs.Prelude.{◌≡◌, ◌≢◌, ℕ, ◌<◌, ◌≤◌, Bool, true, false, Option, Some, None, List, [], ◌∷◌, arith, refl, sym, ap, ◌∙◌, subst, inl, inr}
+use Rattle.sv_world.proofs.Prelude.{⊎_elim, slice_get, slice_get_within, cases_eq, cases_lt, Key, Moment, Session, KeyState, Active, Sent, Gone, Ended, Grant}
+use Rattle.sv_world.proofs.Prelude.{Ack, Meanings, AllTouchOnlyHanded, epoch_in, is_unmade, In, WorldEvent, Deliver, Tick, states, Phase, Unborn, Here, Away}
+use Rattle.sv_world.proofs.Prelude.{Over, Stands, IsBelow, IsBehind, Cluster, World, durable_at, happens, run, IsStep, AreSteps, setting_at, AllRun, HasRoom}
+use Rattle.sv_world.proofs.Prelude.{IsOff, HasArrived, Round, ticked, behind, IsRound, ArrivesByTick, ArrivesInARound, IsDoneInTwo}
+use Rattle.std.proofs.Common.{◌⊎◌, ◌+◌, length}
 use Rattle.sv_world.proofs.ArrivesLemmas.{acked_arrived, tick_places, delivered_acks, none_made, delivered_ends}
 use Rattle.sv_world.proofs.EpochLemmas.{Gave, Took, step_moves, epochs_rise}
 use Rattle.sv_world.proofs.Keys.{got}
 use Rattle.sv_world.proofs.MovesLemmas.{IsHeld, Onward}
 use Rattle.sv_world.proofs.OneKey.{behind_epoch, below_epoch, is_here, is_away}
 use Rattle.sv_world.proofs.Runs.{Inv, happens_keeps, run_keeps}
-use Rattle.sv_world.proofs.RunningLemmas.{HasPlace, place_in, happens_grows, run_grows, still_in, still_at, still_placed, longer, placed_since, runs_on, runs_along, one_moves, runs_one, told_one}
+use Rattle.sv_world.proofs.RunningLemmas.{HasPlace, place_in, happens_grows, run_grows, still_in, still_at, still_placed, longer, placed_since, runs_on}
+use Rattle.sv_world.proofs.RunningLemmas.{runs_along, one_moves, runs_one, told_one}
 
 -- it has arrived, and its sender is done with it
 pub record IsDone (w : World) (k : Key) (n e to : ℕ) : Type 0 where

@@ -1,31 +1,14 @@
 -- While nodes run: they go on, under the same numbers; and packets stay where they are in the list of all that were sent.
-use Rattle.std.proofs.Common.{◌≡◌, ◌≢◌, ◌⊎◌, ℕ, zero, suc, ◌<◌, ◌≤◌, Bool, true, false, Option, Some, None, List, [], ◌∷◌, ◌++◌, length, arith, refl, sym, ap, ◌∙◌, subst, inl, inr, ⊎_elim, append-nil, append_assoc, length-append}
-use Rattle.std.specs.Prelude.{slice_get, ◌||◌}
-use Rattle.std.specs.Option.{option_map}
-use Rattle.std.specs.List.{filter_map, list_any, cons_option}
-use Rattle.std.proofs.lemmas.Option.{same_Some}
-use Rattle.std.proofs.lemmas.Bool.{true≢false, cases_eq}
-use Rattle.sv_model.specs.declared.key.Key.{Key}
-use Rattle.sv_model.specs.declared.key.Moment.{Moment}
-use Rattle.sv_model.specs.declared.packet.Packet.{Packet}
+use Rattle.sv_world.proofs.Prelude.{◌≡◌, ◌≢◌, ℕ, ◌<◌, ◌≤◌, true, Option, Some, None, List, [], ◌∷◌, ◌++◌, arith, refl, sym, ap, ◌∙◌, subst, inl, inr, ⊎_elim}
+use Rattle.sv_world.proofs.Prelude.{append-nil, append_assoc, length-append, slice_get, option_map, filter_map, cons_option, same_Some, cases_eq, Key, Moment}
+use Rattle.sv_world.proofs.Prelude.{Packet, Meanings, left, In, addressee, sends_in, WorldEvent, Deliver, Call, known, states, Cluster, Member, World}
+use Rattle.sv_world.proofs.Prelude.{durable_at, whole, decision, steps, happens, run, call_of, IsStep, AreSteps, nodes_told, Runs, AllRun}
+use Rattle.std.proofs.Common.{◌⊎◌, zero, suc, length}
 use Rattle.sv_model.specs.declared.input.Input.TheVariants as input
-use Rattle.sv_model.specs.Container.{Meanings}
-use Rattle.sv_model.specs.Decision.{left}
-use Rattle.sv_model.specs.Membership.{In}
-use Rattle.sv_model.specs.Migration.{addressee}
-use Rattle.sv_model.specs.Outputs.{sends_in}
-use Rattle.sv_world.specs.declared.event.WorldEvent.{WorldEvent}
-use Rattle.sv_world.specs.declared.event.WorldEvent.TheVariants.{Deliver}
-use Rattle.sv_world.specs.declared.call.Call.{Call}
-use Rattle.sv_model.specs.NodeState.{known}
-use Rattle.sv_world.specs.Headline.{states}
-use Rattle.sv_world.specs.Sent.{same_packet}
-use Rattle.sv_world.specs.World.{Cluster, Member, World, durable_at, whole, decision, steps, happens, run, call_of}
-use Rattle.sv_world.specs.Progress.{IsStep, AreSteps, nodes_told, Runs, AllRun}
 use Rattle.sv_world.proofs.Events.{behind}
 use Rattle.sv_world.proofs.Keys.{in_left, got}
 use Rattle.sv_world.proofs.ProgressLemmas.{stepping, stepped_by, ready_by, boot_kept}
-use Rattle.sv_world.proofs.SentLemmas.{packet_decides}
+use Rattle.sv_world.proofs.SentLemmas.{in_sent}
 use Rattle.sv_world.proofs.Waiting.{by_node}
 
 -- ---- places in a list that grows
@@ -94,23 +77,6 @@ longer w v g = omega (arith, ap (λ (ps : List Packet). length ps) g.is, length-
 pub placed_since : (p : Packet) (a b : ℕ) (ps : List Packet) → a ≤ b → HasPlace p b ps → HasPlace p a ps
 placed_since p a b ps le h = record { place = h.place; since = omega (arith, le, h.since); at = h.at }
 
--- ---- a packet that was sent passes the test of it
-
-or_left : (a b : Bool) → a ≡ true → (a || b) ≡ true
-or_left true b e = refl
-or_left false b e = absurd (true≢false (sym e))
-
-or_right : (a b : Bool) → b ≡ true → (a || b) ≡ true
-or_right true b e = refl
-or_right false b e = e
-
-in_test : (p : Packet) (ps : List Packet) → In p ps → list_any (same_packet p) ps ≡ true
-in_test p [] i = absurd i
-in_test p (q ∷ ps) i = ⊎_elim
-    (λ (e : q ≡ p). or_left (same_packet p q) (list_any (same_packet p) ps) (ap (same_packet p) e ∙ (packet_decides p p).1 refl))
-    (λ (t : In p ps). or_right (same_packet p q) (list_any (same_packet p) ps) (in_test p ps t))
-    i
-
 module _ (m : Meanings) (c : Cluster) where
   pub happens_grows : (w : World) (e : WorldEvent) → Grows w (happens m c w e)
   happens_grows w e = behind m c w (Grows w) e (record {
@@ -176,7 +142,7 @@ module _ (m : Meanings) (c : Cluster) where
   delivery P w moment place p r at h =
       let call : Call = record { node = addressee p; moment = moment; input = input.Packet p } in
       let asks : call_of w.packets (Deliver moment place) ≡ Some call = ap (option_map (λ (q : Packet). record { node = addressee q; moment = moment; input = input.Packet q })) at in
-      let ready = ready_by c w call r (in_test p w.packets (got w.packets place p at)) refl in
+      let ready = ready_by c w call r (in_sent p w.packets (got w.packets place p at)) refl in
       subst (λ o. P (steps m c w (Deliver moment place) o)) (sym asks) (subst P (sym (stepped_by m c w (Deliver moment place) call ready)) h)
 
 -- one of the nodes runs

@@ -1,41 +1,14 @@
 -- Every list of events keeps the invariant.
-use Rattle.std.proofs.Common.{◌≡◌, ◌≢◌, ℕ, ◌<◌, ◌≤◌, ◌==◌, true, Option, Some, None, List, [], ◌∷◌, ◌++◌, arith, refl, sym, ap, ◌∙◌, subst, inl, inr, ⊎_elim, eq-eqb, append-nil}
-use Rattle.std.specs.Option.{option_to_list}
-use Rattle.std.specs.FinMap.{get, get-empty}
-use Rattle.std.proofs.lemmas.Bool.{cases_eq, ne_eqb, eqb-true, ltb-true, and_parts, cond_both, cond-true, cond-false}
-use Rattle.std.proofs.lemmas.List.{map-append}
-use Rattle.std.proofs.lemmas.List.Concat.{flat_map-append}
-use Rattle.sv_model.specs.declared.key.Key.{Key}
-use Rattle.sv_model.specs.declared.key.Moment.{Moment}
-use Rattle.sv_model.specs.declared.key.Token.{Token}
-use Rattle.sv_model.specs.declared.session.Session.{Session}
-use Rattle.sv_model.specs.declared.state.KeyState.{KeyState}
-use Rattle.sv_model.specs.declared.state.KeyState.TheVariants.{Active, Sent}
-use Rattle.sv_model.specs.declared.packet.Packet.{Packet}
-use Rattle.sv_model.specs.declared.input.Input.{Input}
-use Rattle.sv_model.specs.declared.input.Input.TheVariants.{Ask, Packet as Incoming, Poke, Tick, Move}
-use Rattle.sv_model.specs.declared.record.Record.{Record}
-use Rattle.sv_model.specs.Keys.{key_cmp}
-use Rattle.sv_model.specs.Container.{Meanings, AllTouchOnlyHanded}
-use Rattle.sv_model.specs.NodeState.{Durable, known}
-use Rattle.sv_model.specs.Decision.{Decision, left}
-use Rattle.sv_model.specs.Trace.{Item, commits_of}
-use Rattle.sv_model.specs.Membership.{with_last}
-use Rattle.sv_model.specs.Outputs.{sends_in}
-use Rattle.sv_model.specs.Opening.{opening_of}
-use Rattle.sv_model.specs.Replay.{blank, applied, applied_if}
-use Rattle.sv_model.specs.declared.record.Record.TheVariants.{Boot, Forgets}
-use Rattle.sv_model.proofs.KnownLemmas.{plainly_known, known_begun}
-use Rattle.std.specs.Prelude.{◌⊎◌, ◌+◌, ◌&&◌, nat_lt}
-use Rattle.std.proofs.lemmas.Option.{same_Some}
-use Rattle.sv_world.specs.Life.{Life, Unborn}
-use Rattle.sv_world.specs.declared.event.WorldEvent.{WorldEvent}
-use Rattle.sv_world.specs.declared.line.Line.{Line}
-use Rattle.sv_world.specs.declared.call.Call.{Call}
-use Rattle.sv_world.specs.World.{Cluster, Member, World, set_member, durable_at, stopped, nothing_happened, items, commits_in, openings_of, whole, torn, silent, becomes, decision, happens, run, item_at, record_of_start, quiet_line, commit_with, token_of_call, setting_of}
-use Rattle.sv_world.specs.Sane.{Sane, acked, store_of}
-use Rattle.sv_world.specs.Headline.{states, IsLiveAt, IsOpening, IsLive, granted, opened}
-use Rattle.sv_model.specs.Node.{decided}
+use Rattle.sv_world.proofs.Prelude.{◌≡◌, ◌≢◌, ℕ, ◌<◌, ◌≤◌, ◌==◌, true, Option, Some, None, List, [], ◌∷◌, ◌++◌, arith, refl, sym, ap, ◌∙◌, subst, inl, inr}
+use Rattle.sv_world.proofs.Prelude.{⊎_elim, eq-eqb, append-nil, option_to_list, get, get-empty, cases_eq, ne_eqb, eqb-true, ltb-true, and_parts, cond_both}
+use Rattle.sv_world.proofs.Prelude.{cond-true, cond-false, map-append, flat_map-append, Key, Moment, Token, Session, KeyState, Active, Sent, Packet, Input}
+use Rattle.sv_world.proofs.Prelude.{Incoming, Move, Record, key_cmp, Meanings, AllTouchOnlyHanded, Durable, known, Decision, left, Item, commits_of, with_last}
+use Rattle.sv_world.proofs.Prelude.{sends_in, opening_of, blank, applied, applied_if, Boot, Forgets, plainly_known, known_begun, ◌⊎◌, ◌+◌, ◌&&◌, nat_lt}
+use Rattle.sv_world.proofs.Prelude.{same_Some, Life, Unborn, WorldEvent, Line, Call, Cluster, Member, World, set_member, durable_at, stopped, nothing_happened}
+use Rattle.sv_world.proofs.Prelude.{items, commits_in, openings_of, whole, torn, silent, becomes, decision, happens, run, item_at, record_of_start, quiet_line}
+use Rattle.sv_world.proofs.Prelude.{commit_with, token_of_call, setting_of, Sane, acked, store_of, states, IsLiveAt, IsOpening, IsLive, granted, opened}
+use Rattle.sv_world.proofs.Prelude.{decided}
+use Rattle.sv_model.specs.declared.input.Input.TheVariants.{Ask, Poke, Tick}
 use Rattle.sv_world.proofs.Events.{IsSentIn, IsReady, behind, behind_all}
 use Rattle.sv_world.proofs.Sending.{lives_packets}
 use Rattle.sv_world.proofs.OneKey.{lives_once, map_has_live, live_of_map}

@@ -1,13 +1,8 @@
 -- After a round nobody waits any more where a session has come that was on its way, unless it was handed on.
-use Rattle.std.proofs.Common.{◌≡◌, ◌⊎◌, ℕ, ◌<◌, ◌≤◌, true, List, [], ◌∷◌, arith, sym, ap, ◌∙◌, inl, inr, ⊎_elim}
-use Rattle.std.proofs.lemmas.Bool.{true≢false, cases_lt}
-use Rattle.sv_model.specs.declared.key.Key.{Key}
-use Rattle.sv_model.specs.Container.{Meanings, AllTouchOnlyHanded}
-use Rattle.sv_model.specs.NodeState.{epoch_in, known, is_settled}
-use Rattle.sv_world.specs.declared.event.WorldEvent.{WorldEvent}
-use Rattle.sv_world.specs.Headline.{states}
-use Rattle.sv_world.specs.World.{Cluster, World, durable_at, happens, run}
-use Rattle.sv_world.specs.Progress.{IsStep, AreSteps, Went, ticked, behind, ServedInARound}
+use Rattle.sv_world.proofs.Prelude.{◌≡◌, ℕ, ◌<◌, ◌≤◌, true, List, [], ◌∷◌, arith, sym, ap, ◌∙◌, inl, inr, ⊎_elim, true≢false, cases_lt, Key, Meanings}
+use Rattle.sv_world.proofs.Prelude.{AllTouchOnlyHanded, epoch_in, known, is_settled, WorldEvent, states, Cluster, World, durable_at, happens, run, IsStep}
+use Rattle.sv_world.proofs.Prelude.{AreSteps, Went, ticked, behind, ServedInARound}
+use Rattle.std.proofs.Common.{◌⊎◌}
 use Rattle.sv_world.proofs.EpochLemmas.{Gave, Took, step_moves}
 use Rattle.sv_world.proofs.MovesLemmas.{Onward, onward_stays, onward_comes}
 use Rattle.sv_world.proofs.RoundLemmas.{arrives_in_a_round}

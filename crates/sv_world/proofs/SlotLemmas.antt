@@ -1,31 +1,17 @@
 -- A node in code, before a task and after it.
-use Rattle.std.proofs.Common.{◌≡◌, ◌++◌, ℕ, ◌&&◌, true, false, cond, Bool, Option, Some, None, Result, Ok, Err, IfOk, OnOk, List, refl, sym, ap, ◌∙◌, subst}
-use Rattle.std.specs.Option.{option_map, option_to_list}
-use Rattle.std.specs.Prelude.{IfSome, is_some, is_none}
-use Rattle.sv_model.specs.declared.commit.Commit.{Commit}
-use Rattle.sv_model.specs.declared.input.Input.{Input}
-use Rattle.sv_model.specs.declared.key.Moment.{Moment}
-use Rattle.sv_model.specs.declared.node.Setting.{Setting}
-use Rattle.sv_model.specs.declared.node.Stage.TheVariants.{Blank}
-use Rattle.sv_model.specs.declared.record.Record.{Record}
-use Rattle.sv_model.specs.Decision.{Decision, left}
-use Rattle.sv_model.specs.Engine.{EngineMeaning, heard_all}
-use Rattle.sv_model.specs.Journaled.{IsJournaled}
-use Rattle.sv_model.specs.NodeState.{Durable, Node}
-use Rattle.sv_model.specs.Node.{decided}
-use Rattle.sv_model.specs.Replay.{blank, replayed, applied_if}
-use Rattle.sv_model.specs.Fitting.{AllFit}
-use Rattle.sv_core.specs.declared.node.Core.{Core}
+use Rattle.sv_world.proofs.Prelude.{◌≡◌, ◌++◌, ℕ, true, false, cond, Bool, Option, Some, None, OnOk, List, refl, sym, ap, ◌∙◌, subst, option_map}
+use Rattle.sv_world.proofs.Prelude.{option_to_list, IfSome, is_some, is_none, Commit, Input, Moment, Setting, Blank, Record, Decision, left, EngineMeaning}
+use Rattle.sv_world.proofs.Prelude.{heard_all, IsJournaled, Durable, Node, decided, blank, replayed, applied_if, AllFit, Core, Effect, Slot, row_at, MayFollow}
+use Rattle.sv_world.proofs.Prelude.{Done, deed, told_by, heading_by, halted, quiet_at, IsSlot, HasDone, RunsOver, member_by, member_of, durable_of, engine_by}
+use Rattle.sv_world.proofs.Prelude.{engine_in, Member, stopped, commit_with}
+use Rattle.std.proofs.Common.{◌&&◌, Result, Ok, Err, IfOk}
 use Rattle.sv_core.specs.Core as core
-use Rattle.sv_world.specs.declared.line.Effect.{Effect}
 use Rattle.sv_world.specs.declared.line.Heading.{Heading}
 use Rattle.sv_world.specs.declared.core_torn.Rest.{Rest}
-use Rattle.sv_world.specs.declared.slot.Slot.{Slot}
 use Rattle.sv_world.specs.declared.task.Task.TheVariants.{Step, Torn, Silent}
-use Rattle.sv_world.specs.CoreStep.{row_at, rest_of, IsCarriedOut, IsSilenced, MayFollow, halted_with}
-use Rattle.sv_world.specs.Deed.{Done, deed, told_by, heading_by, torn_by, halted, quiet_at, whole_at}
-use Rattle.sv_world.specs.Slot.{IsSlot, HasDone, RunsOver, member_by, member_of, durable_of, engine_by, engine_in, meaning_in}
-use Rattle.sv_world.specs.World.{Member, stopped, commit_with}
+use Rattle.sv_world.specs.CoreStep.{rest_of, IsCarriedOut, IsSilenced, halted_with}
+use Rattle.sv_world.specs.Deed.{torn_by, whole_at}
+use Rattle.sv_world.specs.Slot.{meaning_in}
 use Rattle.sv_world.proofs.CoreStepLemmas.{fits_more, replayed_more}
 
 pub ok_both : {A B J : Type 0} {P Q : A → Type 0} (r : Result A B) → ((x : A) → P x → J → Q x) → IfOk r P → OnOk r J → IfOk r Q

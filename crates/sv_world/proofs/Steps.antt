@@ -1,63 +1,31 @@
 -- Each step of a node keeps the invariant: after its record, and when its packets have left.
-use Rattle.std.proofs.Common.{◌≡◌, ◌≢◌, ◌⊎◌, ℕ, ◌+◌, ◌<◌, ◌≤◌, ◌==◌, ◌&&◌, Bool, true, false, cond, Option, Some, None, List, [], ◌∷◌, ◌++◌, arith, refl, sym, ap, ◌∙◌, subst, inl, inr, ⊎_elim, eq-eqb}
-use Rattle.std.specs.Prelude.{nat_le, nat_lt, not, ◌||◌, is_some, length}
-use Rattle.std.specs.Option.{option_map}
-use Rattle.std.specs.List.{filter, filter_map}
-use Rattle.std.specs.FinMap.{get, insert, remove, entries}
-use Rattle.std.proofs.lemmas.Bool.{cases_eq, cases_lt, lt-ltb, ne_eqb, cond-true, cond-false, false_from_ne_true, cond_both, eqb-true, eqb-false, leb-true, leb-false, and_parts}
-use Rattle.sv_model.specs.declared.key.Key.{Key}
-use Rattle.sv_model.specs.declared.key.Secret.{Secret}
-use Rattle.sv_model.specs.declared.key.Moment.{Moment}
-use Rattle.sv_model.specs.declared.key.Token.{Token}
-use Rattle.sv_model.specs.declared.request.Request.{Request}
-use Rattle.sv_model.specs.declared.session.Session.{Session}
-use Rattle.sv_model.specs.declared.node.Setting.{Setting}
-use Rattle.sv_model.specs.declared.node.Parked.{Parked}
-use Rattle.sv_model.specs.declared.state.KeyState.{KeyState}
-use Rattle.sv_model.specs.declared.state.KeyState.TheVariants.{Active, Sent, Gone, Ended}
-use Rattle.sv_model.specs.declared.state.TheConstants.{PARK_LIMIT}
-use Rattle.sv_model.specs.declared.packet.Packet.{Packet}
-use Rattle.sv_model.specs.declared.packet.Packet.TheVariants.{Want, Grant, Ack, No}
-use Rattle.sv_model.specs.declared.input.Input.{Input}
-use Rattle.sv_model.specs.declared.input.Input.TheVariants.{Ask, Packet as Incoming, Poke, Tick, Move}
-use Rattle.sv_model.specs.declared.output.Cause.{Cause}
-use Rattle.sv_model.specs.declared.output.Cause.TheVariants.{TableFull, SerialsSpent, ParkFull, WantsSpent}
-use Rattle.sv_model.specs.declared.output.Output.{Output}
-use Rattle.sv_model.specs.declared.output.Output.TheVariants.{Send}
-use Rattle.sv_model.specs.declared.commit.Commit.{Commit}
-use Rattle.sv_model.specs.declared.commit.Commit.TheVariants.{Served, Expired}
+use Rattle.sv_world.proofs.Prelude.{◌≡◌, ◌≢◌, ℕ, ◌<◌, ◌≤◌, ◌==◌, Bool, true, false, cond, Option, Some, None, List, [], ◌∷◌, ◌++◌, arith, refl, sym, ap, ◌∙◌}
+use Rattle.sv_world.proofs.Prelude.{subst, inl, inr, ⊎_elim, eq-eqb, nat_le, nat_lt, not, ◌||◌, is_some, length, option_map, filter, filter_map, get, insert}
+use Rattle.sv_world.proofs.Prelude.{remove, entries, cases_eq, cases_lt, lt-ltb, ne_eqb, cond-true, cond-false, false_from_ne_true, cond_both, eqb-true}
+use Rattle.sv_world.proofs.Prelude.{eqb-false, leb-true, leb-false, and_parts, Key, Secret, Moment, Request, Session, Setting, Parked, KeyState, Active, Sent}
+use Rattle.sv_world.proofs.Prelude.{Gone, Ended, PARK_LIMIT, Packet, Want, Grant, Ack, No, Input, Incoming, Move, Cause, TableFull, SerialsSpent, ParkFull}
+use Rattle.sv_world.proofs.Prelude.{WantsSpent, Output, Send, Commit, Served, Expired, Fate, Untouched, Kept, FateEnded, Absent, Alive, BirthEnded, GoneRecord}
+use Rattle.sv_world.proofs.Prelude.{Meanings, AllTouchOnlyHanded, committed, after, IsLawful, AreLawful, events_with, replies_with, Store, nothing_stored}
+use Rattle.sv_world.proofs.Prelude.{held_by, handed_if, outcome_of, fated, born, made_with, stored, IsNewKey, expiry_events, set_key, Keys, Durable, Node}
+use Rattle.sv_world.proofs.Prelude.{last_number, session_in, epoch_in, is_own, was_given, known, is_settled, is_unmade, is_full, lacks_room, is_crowded}
+use Rattle.sv_world.proofs.Prelude.{Decision, idle, with_record, fresh_of, held_in, answer_of, kept_at, over_at, ended_at, fated_keys, born_keys, next_with}
+use Rattle.sv_world.proofs.Prelude.{named_change, born_change, entry_of, token_of, answered, refused, no_birth, answered_unless, served, wants, parks, waits}
+use Rattle.sv_world.proofs.Prelude.{on_ask, first_of, without, serve_first, serve_parked, hands_over, says_no, no_if_unmade, on_want, takes_over, on_grant}
+use Rattle.sv_world.proofs.Prelude.{on_ack, is_wanted, sender, addressee, is_ours, on_ours, on_packet, move_refused, on_move, is_late, is_over, first_over}
+use Rattle.sv_world.proofs.Prelude.{expire, deadlines, wants_again, grant_again, decided, applied_if, reply_in, keys_tell, active_kept, kept_known}
+use Rattle.sv_world.proofs.Prelude.{known_insert, known_remove, known_born, known_spent, Entry, entry_kept, over_in, In, with_last, sends_in, Opening}
+use Rattle.sv_world.proofs.Prelude.{born_opening, opening_of, mark_of, Life, Stands, Here, Away, top, Cluster, setting_of, Sane, IsUnmade, acked, store_of}
+use Rattle.sv_world.proofs.Prelude.{IsLive, granted, opened, Record}
+use Rattle.std.proofs.Common.{◌⊎◌, ◌+◌, ◌&&◌}
+use Rattle.sv_model.specs.declared.input.Input.TheVariants.{Ask, Poke, Tick}
 use Rattle.sv_model.specs.declared.outcome.Outcome.{Outcome}
-use Rattle.sv_model.specs.declared.outcome.Fate.{Fate}
-use Rattle.sv_model.specs.declared.outcome.Fate.TheVariants.{Untouched, Kept, Ended as FateEnded}
 use Rattle.sv_model.specs.declared.outcome.Birth.{Birth}
-use Rattle.sv_model.specs.declared.outcome.Birth.TheVariants.{Absent, Alive, Ended as BirthEnded}
-use Rattle.sv_model.specs.declared.record.Record.TheVariants.{Gone as GoneRecord}
-use Rattle.sv_model.specs.Container.{Meanings, AllTouchOnlyHanded, committed, after, IsLawful, AreLawful, events_with, replies_with, Store, nothing_stored, held_by, handed_if, outcome_of, fated, born, made_with, stored, IsNewKey, expiry_events}
-use Rattle.sv_model.specs.Keys.{set_key}
-use Rattle.sv_model.specs.NodeState.{Keys, Durable, Node, last_number, session_in, epoch_in, is_own, was_given, known, is_settled, is_unmade, is_full, lacks_room, is_crowded}
-use Rattle.sv_model.specs.Decision.{Decision, idle, with_record}
-use Rattle.sv_model.specs.Serving.{fresh_of, held_in, answer_of, kept_at, over_at, ended_at, fated_keys, born_keys, next_with, named_change, born_change, entry_of, token_of, answered, refused, no_birth, answered_unless, served}
-use Rattle.sv_model.specs.Waiting.{wants, parks, waits, on_ask, first_of, without, serve_first, serve_parked}
-use Rattle.sv_model.specs.Migration.{hands_over, says_no, no_if_unmade, on_want, takes_over, on_grant, on_ack, is_wanted, sender, addressee, is_ours, on_ours, on_packet, move_refused, on_move}
-use Rattle.sv_model.specs.Time.{is_late, is_over, first_over, expire, deadlines, wants_again, grant_again}
-use Rattle.sv_model.specs.Node.{decided}
-use Rattle.sv_model.specs.Replay.{applied_if}
-use Rattle.sv_model.specs.Trace.{reply_in}
-use Rattle.sv_model.proofs.KeyLemmas.{keys_tell}
-use Rattle.sv_model.proofs.KnownLemmas.{active_kept, kept_known, known_insert, known_remove, known_born, known_spent}
-use Rattle.sv_model.proofs.EntryLemmas.{Entry, entry_kept, over_in}
-use Rattle.sv_model.specs.Membership.{In, with_last}
-use Rattle.sv_model.specs.Outputs.{sends_in}
-use Rattle.sv_model.specs.Opening.{Opening, born_opening, opening_of, mark_of}
-use Rattle.sv_world.specs.Life.{Life, Stands, Here, Away, top}
-use Rattle.sv_world.specs.World.{Cluster, setting_of}
-use Rattle.sv_world.specs.Sane.{Sane, IsUnmade, acked, store_of}
-use Rattle.sv_world.proofs.Keys.{set_here, set_there, get_there}
+use Rattle.sv_world.proofs.Keys.{set_here, set_there, get_there, not_true}
 use Rattle.sv_world.proofs.OneKey.{is_here, map_has_live}
-use Rattle.sv_world.proofs.Rows.{LivesOf, RowChanges, FateFits, lives_same, lives_sends, lives_takes, lives_forgets, lives_keeps, lives_ends, lives_born, lives_spent}
+use Rattle.sv_world.proofs.Rows.{LivesOf, RowChanges, FateFits, lives_same, lives_sends, lives_takes, lives_forgets, lives_keeps, lives_ends, lives_born}
+use Rattle.sv_world.proofs.Rows.{lives_spent}
 use Rattle.sv_world.proofs.Sending.{AllJustified}
 use Rattle.sv_world.proofs.Plain.{IsPlain, plain_both, plain_wants, plain_deadlines, plain_again, plain_grants}
-use Rattle.sv_world.specs.Headline.{IsLive, granted, opened}
 
 abbrev pub keys_of : (ℕ → Durable) → ℕ → Key → Option KeyState
 keys_of disks x q = known (disks x) q
@@ -145,50 +113,30 @@ lawful_snoc m st (x ∷ cs) c h l = (h.0, lawful_snoc m (committed m st x) cs c 
 
 -- ---- the record of a request
 
-noted_opens : (named : Option (Key × Secret)) (k : Key) (fate : Fate) (birth : Birth) → opening_of (entry_of (named_change named fate) (born_change k birth)) ≡ born_opening (born_change k birth)
-noted_opens None k fate Absent = refl
-noted_opens None k fate (Alive s) = refl
-noted_opens None k fate BirthEnded = refl
-noted_opens (Some named) k Untouched Absent = refl
-noted_opens (Some named) k Untouched (Alive s) = refl
-noted_opens (Some named) k Untouched BirthEnded = refl
-noted_opens (Some named) k (Kept u) Absent = refl
-noted_opens (Some named) k (Kept u) (Alive s) = refl
-noted_opens (Some named) k (Kept u) BirthEnded = refl
-noted_opens (Some named) k FateEnded Absent = refl
-noted_opens (Some named) k FateEnded (Alive s) = refl
-noted_opens (Some named) k FateEnded BirthEnded = refl
-
-noted_mark : (named : Option (Key × Secret)) (k : Key) (fate : Fate) (birth : Birth) → mark_of (entry_of (named_change named fate) (born_change k birth)) ≡ None
-noted_mark None k fate Absent = refl
-noted_mark None k fate (Alive s) = refl
-noted_mark None k fate BirthEnded = refl
-noted_mark (Some named) k Untouched Absent = refl
-noted_mark (Some named) k Untouched (Alive s) = refl
-noted_mark (Some named) k Untouched BirthEnded = refl
-noted_mark (Some named) k (Kept u) Absent = refl
-noted_mark (Some named) k (Kept u) (Alive s) = refl
-noted_mark (Some named) k (Kept u) BirthEnded = refl
-noted_mark (Some named) k FateEnded Absent = refl
-noted_mark (Some named) k FateEnded (Alive s) = refl
-noted_mark (Some named) k FateEnded BirthEnded = refl
+abbrev noted : Option (Key × Secret) → Key → Fate → Birth → Option Record
+noted named k fate birth = entry_of (named_change named fate) (born_change k birth)
 
 abbrev behind : Option (Key × Secret) → Key → Fate → Birth → Durable → Durable
 behind named k fate birth d = record d { keys = born_keys d.home k birth (fated_keys d.home named fate d.keys); next = next_with birth d.next }
 
-noted_applies : (named : Option (Key × Secret)) (k : Key) (fate : Fate) (birth : Birth) (d : Durable) → applied_if (entry_of (named_change named fate) (born_change k birth)) d ≡ behind named k fate birth d
-noted_applies None k fate Absent d = refl
-noted_applies None k fate (Alive s) d = refl
-noted_applies None k fate BirthEnded d = refl
-noted_applies (Some named) k Untouched Absent d = refl
-noted_applies (Some named) k Untouched (Alive s) d = refl
-noted_applies (Some named) k Untouched BirthEnded d = refl
-noted_applies (Some named) k (Kept u) Absent d = refl
-noted_applies (Some named) k (Kept u) (Alive s) d = refl
-noted_applies (Some named) k (Kept u) BirthEnded d = refl
-noted_applies (Some named) k FateEnded Absent d = refl
-noted_applies (Some named) k FateEnded (Alive s) d = refl
-noted_applies (Some named) k FateEnded BirthEnded d = refl
+record IsNoted (named : Option (Key × Secret)) (k : Key) (fate : Fate) (birth : Birth) : Type 0 where
+  opens : opening_of (noted named k fate birth) ≡ born_opening (born_change k birth)
+  mark : mark_of (noted named k fate birth) ≡ None
+  applies : (d : Durable) → applied_if (noted named k fate birth) d ≡ behind named k fate birth d
+
+is_noted : (named : Option (Key × Secret)) (k : Key) (fate : Fate) (birth : Birth) → IsNoted named k fate birth
+is_noted None k fate Absent = record { opens = refl; mark = refl; applies = λ d. refl }
+is_noted None k fate (Alive s) = record { opens = refl; mark = refl; applies = λ d. refl }
+is_noted None k fate BirthEnded = record { opens = refl; mark = refl; applies = λ d. refl }
+is_noted (Some named) k Untouched Absent = record { opens = refl; mark = refl; applies = λ d. refl }
+is_noted (Some named) k Untouched (Alive s) = record { opens = refl; mark = refl; applies = λ d. refl }
+is_noted (Some named) k Untouched BirthEnded = record { opens = refl; mark = refl; applies = λ d. refl }
+is_noted (Some named) k (Kept u) Absent = record { opens = refl; mark = refl; applies = λ d. refl }
+is_noted (Some named) k (Kept u) (Alive s) = record { opens = refl; mark = refl; applies = λ d. refl }
+is_noted (Some named) k (Kept u) BirthEnded = record { opens = refl; mark = refl; applies = λ d. refl }
+is_noted (Some named) k FateEnded Absent = record { opens = refl; mark = refl; applies = λ d. refl }
+is_noted (Some named) k FateEnded (Alive s) = record { opens = refl; mark = refl; applies = λ d. refl }
+is_noted (Some named) k FateEnded BirthEnded = record { opens = refl; mark = refl; applies = λ d. refl }
 
 -- ---- a birth
 
@@ -305,10 +253,6 @@ or_left : (a b : Bool) → (a || b) ≡ false → a ≡ false
 or_left true b h = h
 or_left false b h = refl
 
-not_true : (a : Bool) → not a ≡ true → a ≡ false
-not_true true h = absurd (let no : false ≡ true = h in cc)
-not_true false h = refl
-
 -- the decision keeps the invariant, once its record is there, and its packets may leave then
 pub record Sound (m : Meanings) (c : Cluster) (disks : ℕ → Durable) (ps : List Packet) (os : List Opening) (cs : List Commit) (n : ℕ) (old : Durable) (d : Decision) : Type 0 where
   pub durable : (new : ℕ → Durable) → Redisk disks new n d.durable → Sane m c new ps (with_last os (opening_of d.entry)) (with_last cs d.commit)
@@ -319,12 +263,6 @@ pub record Sound (m : Meanings) (c : Cluster) (disks : ℕ → Durable) (ps : Li
   pub applies : d.durable ≡ applied_if d.entry old
 
 module _ (m : Meanings) (touches : AllTouchOnlyHanded m) (c : Cluster) (disks : ℕ → Durable) (ps : List Packet) (os : List Opening) (cs : List Commit) (j : Sane m c disks ps os cs) (n : ℕ) (node : Node) (here : disks n ≡ node.durable) where
-  abbrev set : Setting
-  set = setting_of c n node.durable.boot
-
-  abbrev token_at : ℕ → Token
-  token_at number = token_of (setting_of c n node.durable.boot) node.durable number
-
   all : LivesOf (keys_of disks) ps os (store_of m cs).map
   all = record { each = j.lives }
 
@@ -571,9 +509,6 @@ module _ (m : Meanings) (touches : AllTouchOnlyHanded m) (c : Cluster) (disks : 
       })
 
   -- the next key is known nowhere
-  abbrev next_key : Key
-  next_key = record { home = n; serial = node.durable.next }
-
   next_unmade : IsUnmade disks (record { home = n; serial = node.durable.next })
   next_unmade = inl (omega (arith, ap (λ (d : Durable). d.next) here))
 
@@ -659,7 +594,7 @@ module _ (m : Meanings) (touches : AllTouchOnlyHanded m) (c : Cluster) (disks : 
             let raised : out.birth ≢ Absent → (new n).next ≡ node.durable.next + 1 = λ some. next_is ∙ next_raised out.birth node.durable.next some in
             record {
               lives = λ q. subst (λ (st : Store). Life (λ x. known (new x) q) (granted ps q) (acked ps q) (opened (with_last os (opening_of (entry_of (named_change ((m n node.durable.boot).names r) out.fate) (born_change fresh.0 out.birth)))) q) (st.map q)) (sym stored_served)
-                  (subst (λ o. Life (λ x. known (new x) q) (granted ps q) (acked ps q) (opened (with_last os o) q) (born fresh.0 out.birth (fated ((m n node.durable.boot).names r) out.fate (store_of m cs).map) q)) (sym (noted_opens ((m n node.durable.boot).names r) fresh.0 out.fate out.birth)) (lives.each q));
+                  (subst (λ o. Life (λ x. known (new x) q) (granted ps q) (acked ps q) (opened (with_last os o) q) (born fresh.0 out.birth (fated ((m n node.durable.boot).names r) out.fate (store_of m cs).map) q)) (sym (is_noted ((m n node.durable.boot).names r) fresh.0 out.fate out.birth).opens) (lives.each q));
               unmade = λ y q h.
                   let before = unmade_before disks new up q h in
                   ⊎_elim
@@ -683,8 +618,8 @@ module _ (m : Meanings) (touches : AllTouchOnlyHanded m) (c : Cluster) (disks : 
         just = λ new red. tt;
         events = ap (λ (o : Outcome). o.events) (sym outcome_same);
         replies = ap (λ (o : Outcome). (token_of (setting_of c n node.durable.boot) node.durable token, o.response) ∷ []) (sym outcome_same);
-        mark = sym (noted_mark ((m n node.durable.boot).names r) fresh.0 out.fate out.birth);
-        applies = sym (noted_applies ((m n node.durable.boot).names r) fresh.0 out.fate out.birth node.durable);
+        mark = sym (is_noted ((m n node.durable.boot).names r) fresh.0 out.fate out.birth).mark;
+        applies = sym ((is_noted ((m n node.durable.boot).names r) fresh.0 out.fate out.birth).applies node.durable);
       }
 
   unless_sound : (cause : Option Cause) (moment : Moment) (token : ℕ) (r : Request) (waiting : List Parked) → no_birth (setting_of c n node.durable.boot) node.durable (answer_of (m n node.durable.boot) (setting_of c n node.durable.boot) node.durable moment r).birth ≡ cause → Sound m c disks ps os cs n node.durable (answered_unless cause (m n node.durable.boot) (setting_of c n node.durable.boot) node moment token r (answer_of (m n node.durable.boot) (setting_of c n node.durable.boot) node.durable moment r) waiting)

@@ -1,40 +1,23 @@
 -- A request that waits is served or refused within three rounds, or its session was given to another node in them.
-use Rattle.std.proofs.Common.{◌≡◌, ◌≢◌, ◌⊎◌, ℕ, ◌+◌, ◌<◌, ◌≤◌, ◌==◌, Bool, true, false, Option, Some, None, List, [], ◌∷◌, length, arith, refl, sym, ap, ◌∙◌, subst, inl, inr, ⊎_elim, eq-eqb}
-use Rattle.std.specs.Prelude.{slice_get, ◌||◌, is_some}
-use Rattle.std.proofs.lemmas.Option.{slice_get_within}
-use Rattle.std.proofs.lemmas.Bool.{cases_eq, cond-true, and_from, and_right, false_from_ne_true, true≢false}
-use Rattle.sv_model.specs.declared.key.Key.{Key}
-use Rattle.sv_model.specs.declared.key.Moment.{Moment}
-use Rattle.sv_model.specs.declared.session.Session.{Session}
-use Rattle.sv_model.specs.declared.node.Parked.{Parked}
-use Rattle.sv_model.specs.declared.state.KeyState.{KeyState}
-use Rattle.sv_model.specs.declared.state.KeyState.TheVariants.{Active, Sent, Ended}
-use Rattle.sv_model.specs.declared.packet.Packet.TheVariants.{Want, Grant, No}
+use Rattle.sv_world.proofs.Prelude.{◌≡◌, ◌≢◌, ℕ, ◌<◌, ◌≤◌, ◌==◌, Bool, true, false, Option, Some, None, List, [], ◌∷◌, arith, refl, sym, ap, ◌∙◌, subst, inl}
+use Rattle.sv_world.proofs.Prelude.{inr, ⊎_elim, eq-eqb, slice_get, ◌||◌, is_some, slice_get_within, cases_eq, cond-true, and_from, and_right}
+use Rattle.sv_world.proofs.Prelude.{false_from_ne_true, true≢false, Key, Moment, Session, Parked, KeyState, Active, Sent, Ended, Want, Grant, No, Meanings}
+use Rattle.sv_world.proofs.Prelude.{AllTouchOnlyHanded, same_key, last_number, epoch_in, known, is_settled, is_crowded, lacks_room, Decision, idle, left, In}
+use Rattle.sv_world.proofs.Prelude.{is_ours, on_ours, on_packet, is_wanted, is_late, is_quiet, without, serve_parked, keys_tell, WorldEvent, Deliver, Tick}
+use Rattle.sv_world.proofs.Prelude.{Call, states, Away, Stands, Cluster, Member, World, setting_of, durable_at, decision, happens, run, AreSteps, setting_at}
+use Rattle.sv_world.proofs.Prelude.{nodes_told, Runs, AllRun, HasRoomAt, HasRoom, IsOff, HasArrived, IsOnItsWay, Round, ticked, behind, IsRound}
+use Rattle.std.proofs.Common.{◌⊎◌, ◌+◌, length}
 use Rattle.sv_model.specs.declared.input.Input.TheVariants as input
-use Rattle.sv_model.specs.Container.{Meanings, AllTouchOnlyHanded}
-use Rattle.sv_model.specs.Keys.{same_key}
-use Rattle.sv_model.specs.NodeState.{last_number, epoch_in, known, is_settled, is_crowded, lacks_room}
-use Rattle.sv_model.specs.Decision.{Decision, idle, left}
-use Rattle.sv_model.specs.Membership.{In}
-use Rattle.sv_model.specs.Migration.{is_ours, on_ours, on_packet, is_wanted}
-use Rattle.sv_model.specs.Time.{is_late, is_quiet}
-use Rattle.sv_model.specs.Waiting.{without, serve_parked}
-use Rattle.sv_model.proofs.KeyLemmas.{keys_tell}
-use Rattle.sv_world.specs.declared.event.WorldEvent.{WorldEvent}
-use Rattle.sv_world.specs.declared.event.WorldEvent.TheVariants.{Deliver, Tick}
-use Rattle.sv_world.specs.declared.call.Call.{Call}
-use Rattle.sv_world.specs.Headline.{states}
-use Rattle.sv_world.specs.Life.{Away, Stands}
-use Rattle.sv_world.specs.World.{Cluster, Member, World, setting_of, durable_at, decision, happens, run}
-use Rattle.sv_world.specs.Progress.{AreSteps, setting_at, nodes_told, Runs, AllRun, HasRoomAt, HasRoom, IsOff, HasArrived, IsOnItsWay, Round, ticked, behind, IsRound}
-use Rattle.sv_world.proofs.AnsweringLemmas.{Has, HasEnded, IsUnborn, Answers, answers_unmade, answers_step, answers_alone, way_step, IsComing, IsGivenElsewhere, given, due_on}
+use Rattle.sv_world.proofs.AnsweringLemmas.{Has, HasEnded, IsUnborn, Answers, answers_unmade, answers_step, answers_alone, way_step, IsComing, IsGivenElsewhere}
+use Rattle.sv_world.proofs.AnsweringLemmas.{given, due_on}
 use Rattle.sv_world.proofs.ArrivesLemmas.{ours}
 use Rattle.sv_world.proofs.EpochLemmas.{Gave}
 use Rattle.sv_world.proofs.ParkedLemmas.{Both, happens_both, run_both, WaitsOn, waits_first, none_wanted}
 use Rattle.sv_world.proofs.ProgressLemmas.{none_late}
 use Rattle.sv_world.proofs.RoundLemmas.{arrived_still, round_arrives}
 use Rattle.sv_world.proofs.Runs.{Inv}
-use Rattle.sv_world.proofs.RunningLemmas.{HasPlace, happens_grows, run_grows, still_in, still_at, still_placed, longer, placed_since, boots_stay, boots_along, runs_on, runs_along, delivery, runs_one, told_one}
+use Rattle.sv_world.proofs.RunningLemmas.{HasPlace, happens_grows, run_grows, still_in, still_at, still_placed, longer, placed_since, boots_stay, boots_along}
+use Rattle.sv_world.proofs.RunningLemmas.{runs_on, runs_along, delivery, runs_one, told_one}
 use Rattle.sv_world.proofs.ServedLemmas.{IsDue}
 use Rattle.sv_world.proofs.WaitersLemmas.{asks_at, one_leaves, gives, denies, denies_unmade}
 use Rattle.sv_world.proofs.Waiting.{by_node}

@@ -1,43 +1,16 @@
 -- Each step spends the request that came, or one that waits.
-use Rattle.std.proofs.Common.{◌≡◌, ◌≢◌, ◌⊎◌, ℕ, ◌+◌, ◌==◌, Bool, true, false, cond, Option, Some, None, List, [], ◌∷◌, ◌++◌, length, map, arith, refl, sym, ap, ◌∙◌, inl, inr, ⊎_elim}
-use Rattle.std.specs.Prelude.{nat_le, not, ◌||◌}
-use Rattle.std.specs.Option.{option_to_list}
-use Rattle.std.specs.List.{filter, filter_map, flat_map}
-use Rattle.std.specs.FinMap.{entries}
-use Rattle.std.proofs.lemmas.List.Elements.{filter_map-append}
-use Rattle.std.proofs.lemmas.Bool.{cond_both, and_left, and_right, ne_eqb}
-use Rattle.sv_model.specs.declared.key.Key.{Key}
-use Rattle.sv_model.specs.declared.key.Secret.{Secret}
-use Rattle.sv_model.specs.declared.key.Moment.{Moment}
-use Rattle.sv_model.specs.declared.key.Token.{Token}
-use Rattle.sv_model.specs.declared.request.Request.{Request}
-use Rattle.sv_model.specs.declared.session.Session.{Session}
-use Rattle.sv_model.specs.declared.node.Parked.{Parked}
-use Rattle.sv_model.specs.declared.state.KeyState.{KeyState}
-use Rattle.sv_model.specs.declared.state.KeyState.TheVariants.{Active, Sent, Gone, Ended}
-use Rattle.sv_model.specs.declared.state.TheConstants.{PARK_LIMIT}
-use Rattle.sv_model.specs.declared.packet.Packet.{Packet}
-use Rattle.sv_model.specs.declared.packet.Packet.TheVariants.{Want, Grant, Ack, No}
-use Rattle.sv_model.specs.declared.input.Input.{Input}
-use Rattle.sv_model.specs.declared.input.Input.TheVariants.{Ask, Packet as Incoming, Poke, Tick, Move}
-use Rattle.sv_model.specs.declared.output.Cause.{Cause}
-use Rattle.sv_model.specs.declared.output.Cause.TheVariants.{TableFull, ParkFull, WantsSpent, Deadline}
-use Rattle.sv_model.specs.declared.output.Output.TheVariants.{Refuse, Send, Moved}
-use Rattle.sv_model.specs.declared.commit.Commit.TheVariants.{Expired}
-use Rattle.sv_model.specs.declared.record.Record.TheVariants.{Gone as GoneRecord}
-use Rattle.sv_model.specs.Container.{Meanings}
-use Rattle.sv_model.specs.NodeState.{Durable, Node, last_number, epoch_in, known, is_settled, is_unmade, is_dead, lacks_room, is_crowded}
-use Rattle.sv_model.specs.Decision.{Decision, idle, with_record}
-use Rattle.sv_model.specs.Serving.{answer_of, token_of, refused, no_birth, answered_unless, served}
-use Rattle.sv_model.specs.Waiting.{others, wants, parks, waits, on_ask, first_of, without, serve_first, serve_parked}
-use Rattle.sv_model.specs.Migration.{hands_over, says_no, no_if_unmade, on_want, takes_over, on_grant, on_ack, is_wanted, is_ours, on_ours, move_refused, on_move}
-use Rattle.sv_model.specs.Time.{is_late, is_quiet, first_over, expire, deadlines, wants_again, grant_again}
-use Rattle.sv_model.specs.Node.{decided}
-use Rattle.sv_model.specs.Trace.{refusal_in, served_of, same_token, times, asked_by}
-use Rattle.sv_model.proofs.EntryLemmas.{Entry}
-use Rattle.sv_world.specs.World.{Cluster, setting_of}
-use Rattle.sv_world.specs.Waits.{tok}
-use Rattle.sv_world.specs.Progress.{waiting}
+use Rattle.sv_world.proofs.Prelude.{◌≡◌, ◌≢◌, ℕ, ◌==◌, Bool, true, false, cond, Option, Some, None, List, [], ◌∷◌, ◌++◌, arith, refl, sym, ap, ◌∙◌, inl, inr}
+use Rattle.sv_world.proofs.Prelude.{⊎_elim, nat_le, not, ◌||◌, option_to_list, filter, filter_map, flat_map, entries, filter_map-append, cond_both, and_left}
+use Rattle.sv_world.proofs.Prelude.{and_right, ne_eqb, Key, Secret, Moment, Token, Request, Session, Parked, KeyState, Active, Sent, Gone, Ended, PARK_LIMIT}
+use Rattle.sv_world.proofs.Prelude.{Packet, Want, Grant, Ack, No, Input, Incoming, Move, Cause, TableFull, ParkFull, WantsSpent, Deadline, Refuse, Send, Moved}
+use Rattle.sv_world.proofs.Prelude.{Expired, GoneRecord, Meanings, Durable, Node, last_number, epoch_in, known, is_settled, is_unmade, is_dead, lacks_room}
+use Rattle.sv_world.proofs.Prelude.{is_crowded, Decision, idle, with_record, answer_of, token_of, refused, no_birth, answered_unless, served, others, wants}
+use Rattle.sv_world.proofs.Prelude.{parks, waits, on_ask, first_of, without, serve_first, serve_parked, hands_over, says_no, no_if_unmade, on_want, takes_over}
+use Rattle.sv_world.proofs.Prelude.{on_grant, on_ack, is_wanted, is_ours, on_ours, move_refused, on_move, is_late, is_quiet, first_over, expire, deadlines}
+use Rattle.sv_world.proofs.Prelude.{wants_again, grant_again, decided, refusal_in, served_of, same_token, times, asked_by, Entry, Cluster, setting_of, tok}
+use Rattle.sv_world.proofs.Prelude.{waiting}
+use Rattle.std.proofs.Common.{◌⊎◌, ◌+◌, length, map}
+use Rattle.sv_model.specs.declared.input.Input.TheVariants.{Ask, Poke, Tick}
 use Rattle.sv_world.proofs.Arrivals.{one_if, times_more}
 
 waiting_more : (t : Token) (n boot : ℕ) (ps qs : List Parked) → waiting t n boot (ps ++ qs) ≡ waiting t n boot ps + waiting t n boot qs

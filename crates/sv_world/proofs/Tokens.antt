@@ -1,31 +1,16 @@
 -- Every list of events serves or refuses each token once at most.
-use Rattle.std.proofs.Common.{◌≡◌, ◌≢◌, ℕ, ◌+◌, ◌≤◌, Bool, true, false, cond, Option, Some, None, List, [], ◌∷◌, ◌++◌, arith, refl, ap, ◌∙◌}
-use Rattle.std.specs.Option.{option_to_list}
-use Rattle.std.specs.List.{filter_map}
-use Rattle.std.proofs.lemmas.Bool.{eqb-true}
-use Rattle.std.proofs.lemmas.List.Concat.{flat_map-append}
-use Rattle.sv_model.specs.declared.key.Token.{Token}
-use Rattle.sv_model.specs.declared.input.Input.{Input}
-use Rattle.sv_model.specs.declared.input.Input.TheVariants.{Ask, Packet as Incoming, Poke, Tick, Move}
-use Rattle.sv_model.specs.declared.packet.Packet.{Packet}
-use Rattle.sv_model.specs.declared.record.Record.{Record}
-use Rattle.sv_model.specs.declared.commit.Commit.{Commit}
-use Rattle.sv_model.specs.Container.{Meanings}
-use Rattle.sv_model.specs.Decision.{left}
-use Rattle.sv_model.specs.Trace.{Item, commits_of, asked_of, refused_of, served_of, served_by, asked_by, refusal_in, same_token, times, is_of}
-use Rattle.sv_model.specs.Membership.{with_last}
-use Rattle.sv_world.specs.declared.event.WorldEvent.{WorldEvent}
-use Rattle.sv_world.specs.declared.line.Line.{Line}
-use Rattle.sv_world.specs.declared.call.Call.{Call}
-use Rattle.sv_world.specs.World.{Cluster, Member, World, set_member, durable_at, stopped, nothing_happened, items, commits_in, whole, torn, silent, becomes, commit_with, is_unused, decision, happens, run, item_at, token_of_call, record_of_start, setting_of}
-use Rattle.sv_world.specs.Waits.{boot_of}
+use Rattle.sv_world.proofs.Prelude.{◌≡◌, ◌≢◌, ℕ, ◌≤◌, Bool, true, false, cond, Option, Some, None, List, [], ◌∷◌, ◌++◌, arith, refl, ap, ◌∙◌, option_to_list}
+use Rattle.sv_world.proofs.Prelude.{filter_map, eqb-true, flat_map-append, Token, Input, Incoming, Move, Packet, Record, Commit, Meanings, left, Item}
+use Rattle.sv_world.proofs.Prelude.{commits_of, asked_of, refused_of, served_of, served_by, asked_by, refusal_in, same_token, times, is_of, with_last}
+use Rattle.sv_world.proofs.Prelude.{WorldEvent, Line, Call, Cluster, Member, World, set_member, durable_at, stopped, nothing_happened, items, commits_in, whole}
+use Rattle.sv_world.proofs.Prelude.{torn, silent, becomes, commit_with, is_unused, decision, happens, item_at, token_of_call, record_of_start, setting_of}
+use Rattle.sv_world.proofs.Prelude.{boot_of, waiting, Durable, token_of}
+use Rattle.std.proofs.Common.{◌+◌}
+use Rattle.sv_model.specs.declared.input.Input.TheVariants.{Ask, Poke, Tick}
 use Rattle.sv_world.proofs.Arrivals.{one_if, token_same, times_more, times_one, asked_snoc, items_snoc}
 use Rattle.sv_world.proofs.Waiting.{by_node}
-use Rattle.sv_world.specs.Progress.{waiting}
 use Rattle.sv_world.proofs.Thrift.{apart, waiting_none, Thrifty, decide_thrifty}
-use Rattle.sv_model.specs.NodeState.{Durable}
-use Rattle.sv_model.specs.Serving.{token_of}
-use Rattle.sv_world.proofs.Events.{behind, behind_all}
+use Rattle.sv_world.proofs.Events.{behind}
 use Rattle.sv_world.proofs.Runs.{commits_snoc}
 
 pub served_snoc : (t : Token) (cs : List Commit) (o : Option Commit) → times t (served_of (with_last cs o)) ≡ times t (served_of cs) + times t (served_of (option_to_list o))
@@ -126,9 +111,6 @@ module _ (m : Meanings) (c : Cluster) where
     halt_by = λ n asked unused. becomes_spent w e n (stopped (durable_at w n)) None asked refl unused j;
     boots_by = λ n p may none same. becomes_spent w e n p (Some (record_of_start c w n)) None none refl j;
   })
-
-  pub run_spent : (w : World) (es : List WorldEvent) → Spent w → Spent (run m c w es)
-  run_spent w es j = behind_all m c Spent Spent happens_spent (λ v e i _. happens_spent v e i) w es j j
 
   pub first_spent : Spent nothing_happened
   first_spent = record { count = λ t. omega arith; once = λ t. omega arith }

@@ -1,24 +1,13 @@
 -- What is told and answered is what the commits say, in the list's order.
-use Rattle.std.proofs.Common.{◌≡◌, ℕ, ◌+◌, ◌≤◌, Bool, true, false, cond, Option, Some, None, List, [], ◌∷◌, ◌++◌, arith, refl, sym, ap, ◌∙◌, subst}
-use Rattle.std.specs.Option.{option_to_list}
-use Rattle.std.specs.List.{filter}
-use Rattle.std.proofs.lemmas.List.{map-append}
-use Rattle.sv_model.specs.declared.key.Token.{Token}
-use Rattle.sv_model.specs.declared.response.Response.{Response}
-use Rattle.sv_model.specs.declared.record.Record.{Record}
-use Rattle.sv_model.specs.declared.commit.Commit.{Commit}
-use Rattle.sv_model.specs.declared.commit.Commit.TheVariants.{Served, Expired}
-use Rattle.sv_model.specs.Container.{Meanings, AllTouchOnlyHanded, after, store_with, events_with, replies_with, Store, nothing_stored}
-use Rattle.sv_model.specs.Trace.{tokens_in, commits_of, told_of, replies_of, served_of, times}
-use Rattle.sv_world.specs.declared.event.WorldEvent.{WorldEvent}
-use Rattle.sv_world.specs.declared.line.Line.{Line}
-use Rattle.sv_world.specs.declared.call.Call.{Call}
-use Rattle.sv_world.specs.World.{Cluster, Member, World, nothing_happened, items, commits_in, whole, decision, happens, run, item_at, quiet_line}
-use Rattle.sv_world.specs.Sane.{store_of}
-use Rattle.sv_world.specs.Headline.{AreLines, IsUnanswered, IsAnswered, IsUnheard, IsHeard, IsToldLine, wholes, whole_events}
+use Rattle.sv_world.proofs.Prelude.{◌≡◌, ℕ, ◌≤◌, Bool, true, false, cond, Option, Some, None, List, [], ◌∷◌, ◌++◌, arith, refl, sym, ap, ◌∙◌, subst}
+use Rattle.sv_world.proofs.Prelude.{option_to_list, filter, map-append, Token, Response, Record, Commit, Served, Expired, Meanings, AllTouchOnlyHanded, after}
+use Rattle.sv_world.proofs.Prelude.{store_with, events_with, replies_with, Store, nothing_stored, tokens_in, commits_of, told_of, replies_of, served_of, times}
+use Rattle.sv_world.proofs.Prelude.{WorldEvent, Line, Call, Cluster, World, items, commits_in, whole, decision, happens, item_at, quiet_line, whole_line}
+use Rattle.sv_world.proofs.Prelude.{store_of, AreLines, IsUnanswered, IsAnswered, IsUnheard, IsHeard, IsToldLine, wholes, whole_events}
+use Rattle.std.proofs.Common.{◌+◌}
 use Rattle.sv_world.proofs.Arrivals.{times_more}
-use Rattle.sv_world.proofs.Events.{behind, behind_all}
-use Rattle.sv_world.proofs.Runs.{Inv, SoundAt, sound_at, happens_keeps}
+use Rattle.sv_world.proofs.Events.{behind}
+use Rattle.sv_world.proofs.Runs.{Inv, SoundAt, sound_at}
 
 -- the store after a trace
 stores : Meanings → Store → List Line → Store
@@ -39,64 +28,36 @@ unfolding stores
 lines_snoc P m st [] l h p = (p, tt)
 lines_snoc P m st (x ∷ ls) l h p = (h.0, lines_snoc P m (store_with m st x.commit) ls l h.1 p)
 
--- each line answers what its commit replies, and refuses nobody where it isn't of a whole step
-pub record Answering (m : Meanings) (w : World) : Type 0 where
-  pub lines : AreLines (IsAnswered m) m nothing_stored w.trace
-
--- each line tells what its commit and its record say
-pub record Telling (m : Meanings) (w : World) : Type 0 where
-  pub lines : AreLines (IsToldLine m) m nothing_stored w.trace
-
 more : (P : Store → Line → Type 0) (m : Meanings) (w : World) (l : Line) → AreLines P m nothing_stored w.trace → P (store_of m (commits_in w)) l → AreLines P m nothing_stored (w.trace ++ l ∷ [])
 more P m w l h p = lines_snoc P m nothing_stored w.trace l h (subst (λ st. P st l) (sym (stores_are m nothing_stored w.trace)) p)
 
--- the line of a torn or silent step, or of what isn't a step
-quiet_answers : (m : Meanings) (w : World) (e : WorldEvent) (n : ℕ) (asked : Option Token) (entry : Option Record) (o : Option Commit) (members : ℕ → Member) → Answering m w
-    → Answering m (record { members = members; packets = w.packets; trace = w.trace ++ quiet_line w e n asked entry o ∷ [] })
-quiet_answers m w e n asked entry o members h = record { lines = more (IsAnswered m) m w _ h.lines (record { replies = refl; refused = refl }) }
-
-quiet_tells : (m : Meanings) (w : World) (e : WorldEvent) (n : ℕ) (asked : Option Token) (entry : Option Record) (o : Option Commit) (members : ℕ → Member) → Telling m w
-    → Telling m (record { members = members; packets = w.packets; trace = w.trace ++ quiet_line w e n asked entry o ∷ [] })
-quiet_tells m w e n asked entry o members h = record { lines = more (IsToldLine m) m w _ h.lines (record { events = refl; mark = refl }) }
+-- a fact of the line of a whole step, and of any line that tells nothing and puts nothing out
+module _ (m : Meanings) (touches : AllTouchOnlyHanded m) (c : Cluster) (P : Store → Line → Type 0)
+    (wholes : (w : World) (e : WorldEvent) (call : Call) → SoundAt m c w call.node (decision m c w call)
+    → P (store_of m (commits_in w)) (whole_line c w e call (decision m c w call)))
+    (quiets : (st : Store) (w : World) (e : WorldEvent) (n : ℕ) (asked : Option Token) (entry : Option Record) (o : Option Commit)
+    → P st (quiet_line w e n asked entry o)) where
+  happens_lines : (w : World) (e : WorldEvent) → Inv m c w → AreLines P m nothing_stored w.trace → AreLines P m nothing_stored (happens m c w e).trace
+  happens_lines w e inv h = behind m c w (λ (v : World). AreLines P m nothing_stored v.trace) e (record {
+    still = h;
+    whole_by = λ call is r. more P m w _ h (wholes w e call (sound_at m touches c w call inv r));
+    torn_by = λ call is r. more P m w _ h (quiets _ w e call.node _ _ _);
+    silent_by = λ call is r. more P m w _ h (quiets _ w e call.node _ _ _);
+    halt_by = λ n asked _. more P m w _ h (quiets _ w e n _ _ _);
+    boots_by = λ n p may none same. more P m w _ h (quiets _ w e n _ _ _);
+  })
 
 module _ (m : Meanings) (touches : AllTouchOnlyHanded m) (c : Cluster) where
-  whole_answers : (w : World) (e : WorldEvent) (call : Call) → SoundAt m c w call.node (decision m c w call) → Answering m w → Answering m (whole c w e call (decision m c w call))
-  whole_answers w e call s h = record { lines = more (IsAnswered m) m w _ h.lines s.replies }
+  -- each line answers what its commit replies, and refuses nobody where it isn't of a whole step
+  pub happens_answers : (w : World) (e : WorldEvent) → Inv m c w → AreLines (IsAnswered m) m nothing_stored w.trace
+      → AreLines (IsAnswered m) m nothing_stored (happens m c w e).trace
+  happens_answers = happens_lines m touches c (IsAnswered m) (λ w e call s. s.replies) (λ st w e n asked entry o. record { replies = refl; refused = refl })
 
-  whole_tells : (w : World) (e : WorldEvent) (call : Call) → SoundAt m c w call.node (decision m c w call) → Telling m w → Telling m (whole c w e call (decision m c w call))
-  whole_tells w e call s h = record { lines = more (IsToldLine m) m w _ h.lines (record { events = s.events; mark = s.mark }) }
-
-  pub happens_answers : (w : World) (e : WorldEvent) → Inv m c w → Answering m w → Answering m (happens m c w e)
-  happens_answers w e inv h = behind m c w (Answering m) e (record {
-    still = h;
-    whole_by = λ call is r. whole_answers w e call (sound_at m touches c w call inv r) h;
-    torn_by = λ call is r. record { lines = more (IsAnswered m) m w _ h.lines (record { replies = refl; refused = refl }) };
-    silent_by = λ call is r. quiet_answers m w e call.node _ _ _ _ h;
-    halt_by = λ n asked _. quiet_answers m w e n _ _ _ _ h;
-    boots_by = λ n p may none same. quiet_answers m w e n _ _ _ _ h;
-  })
-
-  pub happens_tells : (w : World) (e : WorldEvent) → Inv m c w → Telling m w → Telling m (happens m c w e)
-  happens_tells w e inv h = behind m c w (Telling m) e (record {
-    still = h;
-    whole_by = λ call is r. whole_tells w e call (sound_at m touches c w call inv r) h;
-    torn_by = λ call is r. record { lines = more (IsToldLine m) m w _ h.lines (record { events = refl; mark = refl }) };
-    silent_by = λ call is r. quiet_tells m w e call.node _ _ _ _ h;
-    halt_by = λ n asked _. quiet_tells m w e n _ _ _ _ h;
-    boots_by = λ n p may none same. quiet_tells m w e n _ _ _ _ h;
-  })
-
-  pub run_answers : (w : World) (es : List WorldEvent) → Inv m c w → Answering m w → Answering m (run m c w es)
-  run_answers w es inv h = behind_all m c (Inv m c) (Answering m) (happens_keeps m touches c) happens_answers w es inv h
-
-  pub run_tells : (w : World) (es : List WorldEvent) → Inv m c w → Telling m w → Telling m (run m c w es)
-  run_tells w es inv h = behind_all m c (Inv m c) (Telling m) (happens_keeps m touches c) happens_tells w es inv h
-
-pub first_answers : (m : Meanings) → Answering m nothing_happened
-first_answers m = record { lines = tt }
-
-pub first_tells : (m : Meanings) → Telling m nothing_happened
-first_tells m = record { lines = tt }
+  -- each line tells what its commit and its record say
+  pub happens_tells : (w : World) (e : WorldEvent) → Inv m c w → AreLines (IsToldLine m) m nothing_stored w.trace
+      → AreLines (IsToldLine m) m nothing_stored (happens m c w e).trace
+  happens_tells = happens_lines m touches c (IsToldLine m)
+      (λ w e call s. record { events = s.events; mark = s.mark }) (λ st w e n asked entry o. record { events = refl; mark = refl })
 
 -- ---- what the lines say of the whole trace
 

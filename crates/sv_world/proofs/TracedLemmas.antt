@@ -1,10 +1,9 @@
 -- What is told without a commit: its last is a mark.
-use Rattle.std.proofs.Common.{◌≡◌, ◌++◌, ℕ, ◌∷◌, [], List, Option, Some, None, false, length, arith, refl, sym, ap, ◌∙◌, subst, append-nil}
-use Rattle.std.specs.Option.{option_to_list}
+use Rattle.sv_world.proofs.Prelude.{◌≡◌, ◌++◌, ℕ, ◌∷◌, [], List, Option, Some, None, false, arith, refl, sym, ap, ◌∙◌, subst, append-nil, option_to_list, Told}
+use Rattle.sv_world.proofs.Prelude.{parted}
+use Rattle.std.proofs.Common.{length}
 use Rattle.std.specs.Prelude.{MatchOption}
-use Rattle.sv_model.specs.declared.event.Told.{Told}
 use Rattle.sv_core.specs.Decision.{but_last, last_of}
-use Rattle.sv_world.specs.Traced.{parted}
 
 but_last_snoc : (t : Told) (xs : List Told) (x : Told) → but_last t (xs ++ x ∷ []) ≡ t ∷ xs
 but_last_snoc t [] x = refl

@@ -1,22 +1,8 @@
 -- Without the premise the theorem is false: a node is added while another runs that wasn't told of it.
-use Rattle.std.proofs.Common.{◌≡◌, ℕ, ◌≤◌, false, Some, None, [], ◌∷◌, arith, refl, subst}
-use Rattle.std.specs.Prelude.{take}
-use Rattle.std.specs.FinMap.{len-empty, get-empty}
-use Rattle.sv_model.specs.declared.key.Token.{Token}
-use Rattle.sv_model.specs.declared.key.Moment.{Moment}
-use Rattle.sv_model.specs.declared.request.Request.{Request}
-use Rattle.sv_model.specs.declared.response.Response.{Response}
-use Rattle.sv_model.specs.declared.session.Session.{Session}
-use Rattle.sv_model.specs.declared.state.KeyState.{KeyState}
-use Rattle.sv_model.specs.declared.commit.Commit.{Commit}
-use Rattle.sv_model.specs.declared.commit.Commit.TheVariants.{Served}
-use Rattle.sv_model.specs.Keys.{key_cmp}
-use Rattle.sv_model.specs.Container.{nothing_stored, after, AllMayStand, IsExcused}
-use Rattle.sv_model.specs.Trace.{arrival_behind}
-use Rattle.sv_world.specs.declared.event.WorldEvent.TheVariants.{Ask, Restart}
-use Rattle.sv_world.specs.Headline.{IsHeadline}
+use Rattle.sv_world.proofs.Prelude.{◌≡◌, ℕ, ◌≤◌, false, Some, None, [], ◌∷◌, arith, refl, subst, take, len-empty, get-empty, Token, Moment, Request, Response}
+use Rattle.sv_world.proofs.Prelude.{Session, KeyState, Commit, Served, key_cmp, nothing_stored, after, AllMayStand, IsExcused, arrival_behind, Ask, Restart}
+use Rattle.sv_world.proofs.Prelude.{IsHeadline, World, nothing_happened, run, items, commits_in}
 use Rattle.sv_world.specs.Unequal.{first_of_one, names_one, unequal}
-use Rattle.sv_world.specs.World.{World, nothing_happened, run, items, commits_in}
 
 module _ (response : Response) (s : Session) (r : Request) (moment : Moment) where
   abbrev w : World

@@ -1,37 +1,14 @@
 -- What becomes of a request that waits, step by step: it asks again, it is given the session or told that there is none, and is served.
-use Rattle.std.proofs.Common.{◌≡◌, ◌≢◌, ℕ, zero, suc, ◌+◌, ◌<◌, ◌==◌, Bool, true, false, Option, Some, None, List, [], ◌∷◌, ◌++◌, map, length, arith, refl, sym, ap, ◌∙◌, subst, inl, inr, ⊎_elim}
-use Rattle.std.specs.Prelude.{not, slice_get}
-use Rattle.std.specs.List.{filter, filter_map, flat_map}
-use Rattle.std.specs.FinMap.{entries}
-use Rattle.std.proofs.lemmas.Bool.{cond_both, cond-true, cond-false, ne_eqb, true≢false, cases_eq}
-use Rattle.sv_model.specs.declared.key.Key.{Key}
-use Rattle.sv_model.specs.declared.key.Moment.{Moment}
-use Rattle.sv_model.specs.declared.session.Session.{Session}
-use Rattle.sv_model.specs.declared.node.Setting.{Setting}
-use Rattle.sv_model.specs.declared.node.Parked.{Parked}
-use Rattle.sv_model.specs.declared.state.KeyState.{KeyState}
-use Rattle.sv_model.specs.declared.state.KeyState.TheVariants.{Active, Sent, Ended}
-use Rattle.sv_model.specs.declared.packet.Packet.TheVariants.{Want, Grant, No}
+use Rattle.sv_world.proofs.Prelude.{◌≡◌, ◌≢◌, ℕ, ◌<◌, ◌==◌, Bool, true, false, Option, Some, None, List, [], ◌∷◌, ◌++◌, arith, refl, sym, ap, ◌∙◌, subst, inl}
+use Rattle.sv_world.proofs.Prelude.{inr, ⊎_elim, not, slice_get, filter, filter_map, flat_map, entries, cond_both, cond-true, cond-false, ne_eqb, true≢false}
+use Rattle.sv_world.proofs.Prelude.{cases_eq, Key, Moment, Session, Setting, Parked, KeyState, Active, Sent, Ended, Want, Grant, No, Send, Cause, Request}
+use Rattle.sv_world.proofs.Prelude.{EngineMeaning, Meanings, Node, last_number, known, is_settled, is_unmade, Decision, idle, left, answer_of, no_birth}
+use Rattle.sv_world.proofs.Prelude.{answered_unless, In, is_ours, on_ours, on_packet, on_want, hands_over, says_no, packet_in, sends_in, is_late, is_quiet}
+use Rattle.sv_world.proofs.Prelude.{first_over, expire, deadlines, wants_again, grant_again, on_tick, numbers, others, wants, first_of, without, serve_first}
+use Rattle.sv_world.proofs.Prelude.{serve_parked, known_insert, Deliver, Poke, Tick, Call, states, Cluster, Member, World, durable_at, decision, happens}
+use Rattle.sv_world.proofs.Prelude.{setting_at, nodes_told, Runs, IsOff, TicksAsk, WantsAreAnswered, PokesServe}
+use Rattle.std.proofs.Common.{zero, suc, ◌+◌, map, length}
 use Rattle.sv_model.specs.declared.input.Input.TheVariants as input
-use Rattle.sv_model.specs.declared.output.Output.TheVariants.{Send}
-use Rattle.sv_model.specs.declared.output.Cause.{Cause}
-use Rattle.sv_model.specs.declared.request.Request.{Request}
-use Rattle.sv_model.specs.Engine.{EngineMeaning}
-use Rattle.sv_model.specs.Container.{Meanings}
-use Rattle.sv_model.specs.NodeState.{Node, last_number, known, is_settled, is_unmade}
-use Rattle.sv_model.specs.Decision.{Decision, idle, left}
-use Rattle.sv_model.specs.Serving.{answer_of, no_birth, answered_unless}
-use Rattle.sv_model.specs.Membership.{In}
-use Rattle.sv_model.specs.Migration.{is_ours, on_ours, on_packet, on_want, hands_over, says_no}
-use Rattle.sv_model.specs.Outputs.{packet_in, sends_in}
-use Rattle.sv_model.specs.Time.{is_late, is_quiet, first_over, expire, deadlines, wants_again, grant_again, on_tick}
-use Rattle.sv_model.specs.Waiting.{numbers, others, wants, first_of, without, serve_first, serve_parked}
-use Rattle.sv_model.proofs.KnownLemmas.{known_insert}
-use Rattle.sv_world.specs.declared.event.WorldEvent.TheVariants.{Deliver, Poke, Tick}
-use Rattle.sv_world.specs.declared.call.Call.{Call}
-use Rattle.sv_world.specs.Headline.{states}
-use Rattle.sv_world.specs.World.{Cluster, Member, World, durable_at, decision, happens}
-use Rattle.sv_world.specs.Progress.{setting_at, nodes_told, Runs, IsOff, TicksAsk, WantsAreAnswered, PokesServe}
 use Rattle.sv_world.proofs.ArrivesLemmas.{ours}
 use Rattle.sv_world.proofs.Keys.{in_left, in_right, set_here}
 use Rattle.sv_world.proofs.ProgressLemmas.{ready_by, stepped_by}

@@ -1,32 +1,12 @@
 -- The invariant of what waits.
-use Rattle.std.proofs.Common.{◌≡◌, ◌≢◌, ◌⊎◌, ℕ, ◌+◌, ◌<◌, ◌≤◌, ◌==◌, Bool, true, false, Option, Some, None, List, [], ◌∷◌, ◌++◌, map, length, arith, refl, sym, ap, ◌∙◌, subst, inl, inr, ⊎_elim, eq-eqb, length-append, append_assoc, append-nil}
-use Rattle.std.specs.List.{filter}
-use Rattle.std.proofs.lemmas.List.{take-append-le}
+use Rattle.sv_world.proofs.Prelude.{◌≡◌, ◌≢◌, ℕ, ◌<◌, ◌≤◌, ◌==◌, Bool, true, false, Option, Some, None, List, [], ◌∷◌, ◌++◌, arith, refl, sym, ap, ◌∙◌, subst}
+use Rattle.sv_world.proofs.Prelude.{inl, inr, ⊎_elim, eq-eqb, length-append, append_assoc, append-nil, filter, take-append-le, cases_eq, ne_eqb, cond-true}
+use Rattle.sv_world.proofs.Prelude.{cond-false, cond_both, true≢false, Key, Token, Request, Session, Parked, KeyState, Active, Sent, Ended, Packet, Want, Grant}
+use Rattle.sv_world.proofs.Prelude.{Ack, No, Commit, Record, Served, Expired, Meanings, IsExcused, MayStand, AllMayStand, Durable, Decision, left, first_of}
+use Rattle.sv_world.proofs.Prelude.{without, In, with_last, sends_in, Phase, Unborn, Here, Away, Over, Stands, IsBelow, IsBehind, session_of, Member}
+use Rattle.sv_world.proofs.Prelude.{set_member, stopped, commit_with, AllServed, store_of, tok, boot_of, IsPast, IsParked, Waits}
+use Rattle.std.proofs.Common.{◌⊎◌, ◌+◌, map, length}
 use Rattle.std.proofs.Math.Seq.{take-length}
-use Rattle.std.proofs.lemmas.Bool.{cases_eq, ne_eqb, cond-true, cond-false, cond_both, true≢false}
-use Rattle.sv_model.specs.declared.key.Key.{Key}
-use Rattle.sv_model.specs.declared.key.Token.{Token}
-use Rattle.sv_model.specs.declared.request.Request.{Request}
-use Rattle.sv_model.specs.declared.session.Session.{Session}
-use Rattle.sv_model.specs.declared.node.Parked.{Parked}
-use Rattle.sv_model.specs.declared.state.KeyState.{KeyState}
-use Rattle.sv_model.specs.declared.state.KeyState.TheVariants.{Active, Sent, Ended}
-use Rattle.sv_model.specs.declared.packet.Packet.{Packet}
-use Rattle.sv_model.specs.declared.packet.Packet.TheVariants.{Want, Grant, Ack, No}
-use Rattle.sv_model.specs.declared.commit.Commit.{Commit}
-use Rattle.sv_model.specs.declared.record.Record.{Record}
-use Rattle.sv_model.specs.declared.commit.Commit.TheVariants.{Served, Expired}
-use Rattle.sv_model.specs.Container.{Meanings, IsExcused, MayStand, AllMayStand}
-use Rattle.sv_model.specs.NodeState.{Durable}
-use Rattle.sv_model.specs.Decision.{Decision, left}
-use Rattle.sv_model.specs.Waiting.{first_of, without}
-use Rattle.sv_model.specs.Membership.{In, with_last}
-use Rattle.sv_model.specs.Outputs.{sends_in}
-use Rattle.sv_world.specs.Life.{Phase, Unborn, Here, Away, Over, Stands, IsBelow, IsBehind, session_of}
-use Rattle.sv_world.specs.World.{Member, set_member, stopped, commit_with}
-use Rattle.sv_world.specs.Headline.{AllServed}
-use Rattle.sv_world.specs.Sane.{store_of}
-use Rattle.sv_world.specs.Waits.{tok, boot_of, IsPast, IsParked, Waits}
 use Rattle.sv_world.proofs.Keys.{in_cases}
 
 -- an ended key lives nowhere

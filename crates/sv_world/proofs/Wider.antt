@@ -1,23 +1,12 @@
 -- Rules with more room.
-use Rattle.std.proofs.Common.{◌≡◌, ℕ, ◌<◌, ◌≤◌, ◌==◌, ◌&&◌, Bool, true, false, arith}
-use Rattle.std.specs.Prelude.{◌||◌, not, nat_lt, nat_le, is_none}
-use Rattle.std.specs.FinMap.{get, len}
-use Rattle.std.proofs.lemmas.Bool.{cond_both, ltb-true, lt-ltb, leb-true}
-use Rattle.sv_model.specs.declared.key.Key.{Key}
-use Rattle.sv_model.specs.declared.node.Stage.{Stage}
-use Rattle.sv_model.specs.declared.node.Stage.TheVariants.{Blank, Snapshot, Past}
-use Rattle.sv_model.specs.declared.record.Change.{Change}
+use Rattle.sv_world.proofs.Prelude.{◌≡◌, ℕ, ◌<◌, ◌≤◌, ◌==◌, Bool, true, false, arith, ◌||◌, not, nat_lt, nat_le, is_none, get, len, cond_both, ltb-true, lt-ltb}
+use Rattle.sv_world.proofs.Prelude.{leb-true, Key, Stage, Blank, Snapshot, Past, Change, Record, Boot, Taken, State, Counters, Forgets, Counted, KEY_LIMIT}
+use Rattle.sv_world.proofs.Prelude.{KEY_MOST, Durable, last_number, epoch_in, known, is_unmade, bound, has_space, fits_named, fits_born, is_next, fits_state}
+use Rattle.sv_world.proofs.Prelude.{Fits, Cluster, IsWithin, AreWithin, Rules, setting_by}
+use Rattle.std.proofs.Common.{◌&&◌}
 use Rattle.sv_model.specs.declared.record.Change.TheVariants.{Absent, Alive, Ended}
-use Rattle.sv_model.specs.declared.record.Record.{Record}
-use Rattle.sv_model.specs.declared.record.Record.TheVariants.{Boot, Commit, Expired, Sent, Taken, Gone, State, Counters, Forgets, Counted}
-use Rattle.sv_model.specs.declared.state.TheConstants.{KEY_LIMIT, KEY_MOST}
-use Rattle.sv_model.specs.NodeState.{Durable, last_number, epoch_in, known, is_unmade, bound, has_space}
-use Rattle.sv_model.specs.Fitting.{fits_named, fits_born, is_next, fits_state, Fits}
-use Rattle.sv_world.specs.World.{Cluster}
-use Rattle.sv_world.specs.Journals.{IsWithin, AreWithin}
+use Rattle.sv_model.specs.declared.record.Record.TheVariants.{Commit, Expired, Sent, Gone}
 use Rattle.sv_world.proofs.Records.{IsWider}
-use Rattle.sv_world.specs.declared.rules.Rules.{Rules}
-use Rattle.sv_world.specs.Rules.{setting_by}
 
 -- ---- what fits under rules fits under those with more room
 

@@ -1,19 +1,12 @@
 -- A request that waits is served or refused in three rounds, or in as many times three, but for those in which its session went to
 -- another node; and in two where the session has ended.
-use Rattle.std.proofs.Common.{◌≡◌, ◌≢◌, ◌⊎◌, ℕ, ◌<◌, ◌≤◌, Some, None, List, [], ◌∷◌, length, arith, refl, sym, ap, ◌∙◌, subst, inl, inr, ⊎_elim}
-use Rattle.std.proofs.lemmas.Bool.{cases_eq, cases_lt}
-use Rattle.sv_model.specs.declared.key.Key.{Key}
-use Rattle.sv_model.specs.declared.session.Session.{Session}
-use Rattle.sv_model.specs.declared.node.Parked.{Parked}
-use Rattle.sv_model.specs.declared.state.KeyState.TheVariants.{Active, Sent, Ended}
-use Rattle.sv_model.specs.Container.{Meanings, AllTouchOnlyHanded}
-use Rattle.sv_model.specs.NodeState.{last_number, is_settled}
-use Rattle.sv_model.specs.Membership.{In}
-use Rattle.sv_world.specs.declared.event.WorldEvent.{WorldEvent}
-use Rattle.sv_world.specs.Headline.{states}
-use Rattle.sv_world.specs.Life.{Phase, Unborn, Here, Away, Over, Stands}
-use Rattle.sv_world.specs.World.{Cluster, World, durable_at, happens, run}
-use Rattle.sv_world.specs.Progress.{AreSteps, AllRun, HasRoom, HasRoomIn, IsOnItsWay, Round, ticked, behind, behind_all, AreRounds, AreFair, CanCome, WentElsewhere, WentElsewhereIn, IsServed, IsServedInTwo, Window, rounds_of, behind_windows, AreWindows, AlwaysElsewhere, IsServedAtLast, IsDeniedInTwo}
+use Rattle.sv_world.proofs.Prelude.{◌≡◌, ◌≢◌, ℕ, ◌<◌, ◌≤◌, Some, None, List, [], ◌∷◌, arith, refl, sym, ap, ◌∙◌, subst, inl, inr, ⊎_elim, cases_eq, cases_lt}
+use Rattle.sv_world.proofs.Prelude.{Key, Session, Parked, Active, Sent, Ended, Meanings, AllTouchOnlyHanded, last_number, is_settled, In, WorldEvent, states}
+use Rattle.sv_world.proofs.Prelude.{Phase, Unborn, Here, Away, Over, Stands, Cluster, World, durable_at, happens, run, AreSteps, AllRun, HasRoom, HasRoomIn}
+use Rattle.sv_world.proofs.Prelude.{IsOnItsWay, Round, ticked, behind, AreRounds, AreFair, CanCome, WentElsewhere, WentElsewhereIn, IsServed, IsServedInTwo}
+use Rattle.sv_world.proofs.Prelude.{Window, rounds_of, behind_windows, AreWindows, AlwaysElsewhere, IsServedAtLast, IsDeniedInTwo}
+use Rattle.std.proofs.Common.{◌⊎◌, length}
+use Rattle.sv_world.specs.Progress.{behind_all}
 use Rattle.sv_world.proofs.AnsweringLemmas.{Answers, home_unmade, ended_alone, ended_stays, IsComing, IsGivenElsewhere}
 use Rattle.sv_world.proofs.OneKey.{below_epoch}
 use Rattle.sv_world.proofs.ParkedLemmas.{Both, happens_both, run_both, WaitsOn, waits_on, waits_first, wants_along, want_below, one_of_want}

@@ -1,6 +1,4 @@
-use Rattle.std.proofs.Common.{◌≡◌, ◌++◌, map, drop}
-use Rattle.std.specs.List.{filter_map}
-use Rattle.toml.specs.View.{table_view, view}
+use Rattle.sv_config.proofs.Prelude.{◌≡◌, ◌++◌, map, drop, filter_map, table_view, view}
 use Rattle.toml.specs.Data.{as_integer}
 use Rattle.sv_config.specs.Document as spec
 use Rattle.sv_config.proofs.columns.integers_at.Given as goal

@@ -1,6 +1,4 @@
-use Rattle.std.proofs.Common.{◌≡◌, ◌++◌, map, drop}
-use Rattle.std.specs.List.{filter_map}
-use Rattle.toml.specs.View.{table_view}
+use Rattle.sv_config.proofs.Prelude.{◌≡◌, ◌++◌, map, drop, filter_map, table_view}
 use Rattle.sv_config.specs.Document as spec
 use Rattle.sv_config.proofs.columns.texts_of.Given as goal
 

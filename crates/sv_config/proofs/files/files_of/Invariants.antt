@@ -1,5 +1,4 @@
-use Rattle.std.proofs.Common.{◌≡◌, map, take}
-use Rattle.toml.specs.View.{table_view}
+use Rattle.sv_config.proofs.Prelude.{◌≡◌, map, take, table_view}
 use Rattle.sv_config.specs.Values as spec
 use Rattle.sv_config.proofs.files.files_of.Given as goal
 

@@ -1,8 +1,5 @@
-use Rattle.std.proofs.Common.{◌≡◌, ◌++◌, map, drop}
-use Rattle.std.specs.Prelude.{codes}
-use Rattle.toml.specs.View.{table_view, view}
+use Rattle.sv_config.proofs.Prelude.{◌≡◌, ◌++◌, map, drop, codes, table_view, view, spot}
 use Rattle.sv_config.specs.Document.{values_at}
-use Rattle.sv_config.specs.Place.{spot}
 use Rattle.sv_config.specs.Repeats.{texts_from}
 use Rattle.sv_config.proofs.items.add_patterns.Given as goal
 

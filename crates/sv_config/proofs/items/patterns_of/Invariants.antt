@@ -1,6 +1,4 @@
-use Rattle.std.proofs.Common.{◌≡◌, map, take}
-use Rattle.std.specs.List.{flat_map}
-use Rattle.sv_config.specs.Place.{spot, child}
+use Rattle.sv_config.proofs.Prelude.{◌≡◌, map, take, flat_map, spot, child}
 use Rattle.sv_config.specs.Repeats.{patterns_in}
 use Rattle.sv_config.proofs.items.patterns_of.Given as goal
 

@@ -1,7 +1,4 @@
-use Rattle.std.proofs.Common.{◌≡◌, ◌++◌, map, drop}
-use Rattle.std.specs.Prelude.{codes}
-use Rattle.toml.specs.View.{view}
-use Rattle.sv_config.specs.Place.{spot, placed}
+use Rattle.sv_config.proofs.Prelude.{◌≡◌, ◌++◌, map, drop, codes, view, spot, placed}
 use Rattle.sv_config.specs.Repeats.{integers_from, port_items}
 use Rattle.sv_config.proofs.items.port_items.Given as goal
 

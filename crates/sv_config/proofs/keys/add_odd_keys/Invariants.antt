@@ -1,7 +1,6 @@
-use Rattle.std.proofs.Common.{◌≡◌, ◌++◌, map}
-use Rattle.toml.specs.View.{members_view}
+use Rattle.sv_config.proofs.Prelude.{◌≡◌, ◌++◌, map, members_view, spot, placed}
 use Rattle.sv_config.specs.Keys.{is_odd}
-use Rattle.sv_config.specs.Place.{spot, placed, keys_where}
+use Rattle.sv_config.specs.Place.{keys_where}
 use Rattle.sv_config.proofs.keys.add_odd_keys.Given as goal
 
 abbrev pub invariant-loop-key : goal.invariant-loop-key

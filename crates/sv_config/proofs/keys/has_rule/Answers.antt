@@ -1,6 +1,5 @@
-use Rattle.std.proofs.Common.{◌∙◌}
+use Rattle.sv_config.proofs.Prelude.{◌∙◌, rule_of}
 use Rattle.std.specs.Prelude.{bytes_eq}
-use Rattle.sv_config.specs.Rules.{rule_of}
 use Rattle.sv_config.proofs.DocumentLemmas.{list_any_map}
 use Rattle.sv_config.proofs.keys.has_rule.Goals as goal
 

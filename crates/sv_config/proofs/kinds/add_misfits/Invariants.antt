@@ -1,8 +1,5 @@
-use Rattle.std.proofs.Common.{◌≡◌, ◌++◌, map, take}
-use Rattle.std.specs.List.{flat_map}
-use Rattle.sv_config.specs.Place.{spot, placed}
+use Rattle.sv_config.proofs.Prelude.{◌≡◌, ◌++◌, map, take, flat_map, spot, placed, rule_of}
 use Rattle.sv_config.specs.Kinds.{mistyped_field}
-use Rattle.sv_config.specs.Rules.{rule_of}
 use Rattle.sv_config.proofs.kinds.add_misfits.Given as goal
 
 abbrev pub invariant-loop-rule : goal.invariant-loop-rule

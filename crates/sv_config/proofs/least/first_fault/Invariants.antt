@@ -1,6 +1,5 @@
-use Rattle.std.proofs.Common.{◌≡◌, map, drop}
+use Rattle.sv_config.proofs.Prelude.{◌≡◌, map, drop, placed}
 use Rattle.sv_config.specs.Fault as spec
-use Rattle.sv_config.specs.Place.{placed}
 use Rattle.sv_config.proofs.least.first_fault.Given as goal
 
 abbrev pub invariant-loop-fault : goal.invariant-loop-fault

@@ -1,5 +1,4 @@
-use Rattle.std.proofs.Common.{◌≡◌, map, take}
-use Rattle.sv_config.specs.Place.{spot, placed}
+use Rattle.sv_config.proofs.Prelude.{◌≡◌, map, take, spot, placed}
 use Rattle.sv_config.specs.Fault.{places_among}
 use Rattle.sv_config.proofs.least.places_among.Given as goal
 

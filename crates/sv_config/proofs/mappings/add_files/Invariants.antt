@@ -1,5 +1,4 @@
-use Rattle.std.proofs.Common.{◌≡◌, ◌+◌, map, drop}
-use Rattle.toml.specs.View.{table_view}
+use Rattle.sv_config.proofs.Prelude.{◌≡◌, ◌+◌, map, drop, table_view}
 use Rattle.sv_config.specs.Values as spec
 use Rattle.sv_config.proofs.mappings.add_files.Given as goal
 

@@ -1,5 +1,4 @@
-use Rattle.std.proofs.Common.{◌≡◌, map, take}
-use Rattle.std.specs.Prelude.{fold}
+use Rattle.sv_config.proofs.Prelude.{◌≡◌, map, take, fold}
 use Rattle.sv_config.specs.Values as spec
 use Rattle.sv_config.proofs.mappings.add_patterns.Given as goal
 

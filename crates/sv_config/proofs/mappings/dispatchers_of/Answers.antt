@@ -1,4 +1,4 @@
-use Rattle.std.proofs.Common.{◌∙◌, ap, map, List, ℕ, Bor}
+use Rattle.sv_config.proofs.Prelude.{◌∙◌, ap, map, List, ℕ, Bor}
 use Rattle.sv_mapping.specs.Dispatcher.{dispatchers_of}
 use Rattle.sv_config.proofs.mappings.dispatchers_of.Goals as goal
 

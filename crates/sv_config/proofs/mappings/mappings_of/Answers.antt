@@ -1,9 +1,6 @@
-use Rattle.std.proofs.Common.{◌≡◌, ◌∙◌, ◌+◌, ◌<◌, ap, sym, map, drop, get_or, length, arith, List, ℕ, Bor, String, BTreeMap, Global}
-use Rattle.std.specs.Prelude.{codes, fold}
-use Rattle.toml.specs.View.{table_view}
-use Rattle.toml.specs.declared.value.Value.{Value}
-use Rattle.sv_config.specs.Document.{texts_at}
-use Rattle.sv_config.specs.Values.{mapped_from, with_pattern}
+use Rattle.sv_config.proofs.Prelude.{◌≡◌, ◌∙◌, ◌+◌, ◌<◌, ap, map, drop, get_or, length, arith, List, ℕ, Bor, String, BTreeMap, Global, codes, fold, table_view}
+use Rattle.sv_config.proofs.Prelude.{Value, texts_at, mapped_from, with_pattern}
+use Rattle.std.proofs.Common.{sym}
 use Rattle.sv_config.proofs.MappingLemmas.{mapped_next}
 use Rattle.sv_config.proofs.mappings.mappings_of.Goals as goal
 

@@ -1,6 +1,5 @@
-use Rattle.std.proofs.Common.{◌≡◌, map, drop}
+use Rattle.sv_config.proofs.Prelude.{◌≡◌, map, drop, table_view}
 use Rattle.std.specs.FinMap as finite
-use Rattle.toml.specs.View.{table_view}
 use Rattle.sv_config.specs.Values as spec
 use Rattle.sv_config.proofs.mappings.mappings_of.Given as goal
 

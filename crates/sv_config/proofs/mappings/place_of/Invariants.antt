@@ -1,4 +1,4 @@
-use Rattle.std.proofs.Common.{◌≡◌, ◌+◌, map, drop}
+use Rattle.sv_config.proofs.Prelude.{◌≡◌, ◌+◌, map, drop}
 use Rattle.sv_config.specs.Values as spec
 use Rattle.sv_config.proofs.mappings.place_of.Given as goal
 

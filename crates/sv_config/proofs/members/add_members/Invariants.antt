@@ -1,6 +1,5 @@
-use Rattle.std.proofs.Common.{◌≡◌, ◌++◌, map, drop}
-use Rattle.toml.specs.View.{view}
-use Rattle.sv_config.specs.Place.{spot, placed, members_from, members_where}
+use Rattle.sv_config.proofs.Prelude.{◌≡◌, ◌++◌, map, drop, view, spot, placed}
+use Rattle.sv_config.specs.Place.{members_from, members_where}
 use Rattle.sv_config.specs.Keys.{is_unfit}
 use Rattle.sv_config.proofs.members.add_members.Given as goal
 

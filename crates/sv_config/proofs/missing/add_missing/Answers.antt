@@ -1,4 +1,4 @@
-use Rattle.std.proofs.Common.{append_assoc}
+use Rattle.sv_config.proofs.Prelude.{append_assoc}
 use Rattle.sv_config.proofs.missing.add_missing.Goals as goal
 
 pub returns : goal.returns

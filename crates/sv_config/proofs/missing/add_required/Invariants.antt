@@ -1,8 +1,6 @@
-use Rattle.std.proofs.Common.{◌≡◌, ◌++◌, map, take}
-use Rattle.std.specs.List.{flat_map}
+use Rattle.sv_config.proofs.Prelude.{◌≡◌, ◌++◌, map, take, flat_map, spot, placed, rule_of}
 use Rattle.sv_config.specs.Missing.{lacks}
-use Rattle.sv_config.specs.Place.{spot, placed, field_where}
-use Rattle.sv_config.specs.Rules.{rule_of}
+use Rattle.sv_config.specs.Place.{field_where}
 use Rattle.sv_config.proofs.missing.add_required.Given as goal
 
 abbrev pub invariant-loop-rule : goal.invariant-loop-rule

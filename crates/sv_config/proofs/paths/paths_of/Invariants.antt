@@ -1,5 +1,4 @@
-use Rattle.std.proofs.Common.{◌≡◌, map, take}
-use Rattle.std.specs.Prelude.{string_bytes}
+use Rattle.sv_config.proofs.Prelude.{◌≡◌, map, take, string_bytes}
 use Rattle.sv_config.proofs.paths.paths_of.Given as goal
 
 abbrev pub invariant-loop-context : goal.invariant-loop-context

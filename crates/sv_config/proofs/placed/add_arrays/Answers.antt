@@ -1,4 +1,4 @@
-use Rattle.std.proofs.Common.{append_assoc}
+use Rattle.sv_config.proofs.Prelude.{append_assoc}
 use Rattle.sv_config.specs.Place.{placed_arrays}
 use Rattle.sv_config.proofs.placed.add_arrays.Goals as goal
 

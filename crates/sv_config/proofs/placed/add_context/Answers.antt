@@ -1,5 +1,4 @@
-use Rattle.std.proofs.Common.{append_assoc}
-use Rattle.std.proofs.lemmas.List.{map-append}
+use Rattle.sv_config.proofs.Prelude.{append_assoc, map-append}
 use Rattle.sv_config.specs.Place.{placed_in}
 use Rattle.sv_config.proofs.placed.add_context.Goals as goal
 

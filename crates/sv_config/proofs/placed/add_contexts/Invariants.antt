@@ -1,5 +1,4 @@
-use Rattle.std.proofs.Common.{◌≡◌, ◌++◌, map, take}
-use Rattle.std.specs.List.{flat_map}
+use Rattle.sv_config.proofs.Prelude.{◌≡◌, ◌++◌, map, take, flat_map}
 use Rattle.sv_config.specs.Place as spec
 use Rattle.sv_config.proofs.placed.add_contexts.Given as goal
 

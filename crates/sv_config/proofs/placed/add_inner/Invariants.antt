@@ -1,4 +1,4 @@
-use Rattle.std.proofs.Common.{◌≡◌, ◌++◌, map, take}
+use Rattle.sv_config.proofs.Prelude.{◌≡◌, ◌++◌, map, take}
 use Rattle.sv_config.specs.Place as spec
 use Rattle.sv_config.proofs.placed.add_inner.Given as goal
 

@@ -1,5 +1,4 @@
-use Rattle.std.proofs.Common.{◌≡◌, ◌++◌, map, drop}
-use Rattle.toml.specs.View.{table_view, view}
+use Rattle.sv_config.proofs.Prelude.{◌≡◌, ◌++◌, map, drop, table_view, view}
 use Rattle.sv_config.specs.Place as spec
 use Rattle.sv_config.proofs.placed.children.Given as goal
 

@@ -1,4 +1,4 @@
-use Rattle.std.proofs.Common.{refl}
+use Rattle.sv_config.proofs.Prelude.{refl}
 use Rattle.sv_config.specs.Place.{placed_tables}
 use Rattle.sv_config.proofs.placed.placed_tables.Goals as goal
 

@@ -1,10 +1,5 @@
-use Rattle.std.proofs.Common.{◌≡◌, ◌∙◌, ◌<◌, ◌+◌, ◌++◌, [], ◌∷◌, cond, true, ap, List, length, map, take, drop, get_or, arith, refl}
-use Rattle.std.specs.Prelude.{not}
-use Rattle.std.specs.BTreeSet.{contains}
-use Rattle.std.specs.List.{list_any}
-use Rattle.std.specs.Ordering.{eq_by_cmp}
-use Rattle.sv_config.specs.Place.{Spot, spot}
-use Rattle.sv_config.specs.Repeats.{repeated_behind}
+use Rattle.sv_config.proofs.Prelude.{◌≡◌, ◌∙◌, ◌<◌, ◌+◌, ◌++◌, [], ◌∷◌, cond, true, ap, List, length, map, take, drop, get_or, arith, refl, not, contains}
+use Rattle.sv_config.proofs.Prelude.{list_any, eq_by_cmp, Spot, spot, repeated_behind}
 use Rattle.sv_config.proofs.AgainLemmas.{passed_more, again_more, was_there}
 use Rattle.sv_config.proofs.repeats.add_again.Goals as goal
 

@@ -1,9 +1,4 @@
-use Rattle.std.proofs.Common.{◌≡◌, ◌++◌, map, take, drop}
-use Rattle.std.specs.BTreeSet.{contains}
-use Rattle.std.specs.List.{list_any}
-use Rattle.std.specs.Ordering.{eq_by_cmp}
-use Rattle.sv_config.specs.Place.{spot}
-use Rattle.sv_config.specs.Repeats.{repeated, repeated_behind}
+use Rattle.sv_config.proofs.Prelude.{◌≡◌, ◌++◌, map, take, drop, contains, list_any, eq_by_cmp, spot, repeated, repeated_behind}
 use Rattle.sv_config.proofs.repeats.add_again.Given as goal
 
 abbrev pub invariant-loop-key : goal.invariant-loop-key

@@ -1,5 +1,4 @@
-use Rattle.std.proofs.Common.{◌++◌, ◌∙◌, ap, map}
-use Rattle.sv_config.specs.Place.{spot}
+use Rattle.sv_config.proofs.Prelude.{◌++◌, ◌∙◌, ap, map, spot}
 use Rattle.sv_config.proofs.AgainLemmas.{texts_again}
 use Rattle.sv_config.proofs.repeats.add_repeated_texts.Goals as goal
 

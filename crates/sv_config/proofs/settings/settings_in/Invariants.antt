@@ -1,5 +1,4 @@
-use Rattle.std.proofs.Common.{◌≡◌, ◌++◌, map}
-use Rattle.toml.specs.View.{table_view, members_view}
+use Rattle.sv_config.proofs.Prelude.{◌≡◌, ◌++◌, map, table_view, members_view}
 use Rattle.sv_config.specs.Values as spec
 use Rattle.sv_config.proofs.settings.settings_in.Given as goal
 

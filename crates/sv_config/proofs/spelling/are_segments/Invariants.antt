@@ -1,5 +1,4 @@
-use Rattle.std.proofs.Common.{◌≡◌, map, drop}
-use Rattle.std.specs.List.{list_all}
+use Rattle.sv_config.proofs.Prelude.{◌≡◌, map, drop, list_all}
 use Rattle.sv_config.specs.Spelling.{is_segment}
 use Rattle.sv_config.proofs.spelling.are_segments.Given as goal
 

@@ -1,6 +1,4 @@
-use Rattle.std.proofs.Common.{◌≡◌, ◌++◌, map, take}
-use Rattle.std.specs.List.{flat_map}
-use Rattle.sv_config.specs.Place.{spot, child}
+use Rattle.sv_config.proofs.Prelude.{◌≡◌, ◌++◌, map, take, flat_map, spot, child}
 use Rattle.sv_config.specs.Unknown.{stranger_at}
 use Rattle.sv_config.proofs.unknown.add_strangers.Given as goal
 

@@ -1,6 +1,5 @@
-use Rattle.std.proofs.Common.{◌<◌, length, [], arith}
+use Rattle.sv_config.proofs.Prelude.{◌<◌, length, [], arith, Text}
 use Rattle.std.specs.Borrow.{Bor}
-use Rattle.sv_mapping.specs.Path.{Text}
 use Rattle.sv_config.proofs.AgainLemmas.{found_more}
 use Rattle.sv_config.proofs.unknown.names_of.Goals as goal
 

@@ -1,9 +1,6 @@
-use Rattle.std.proofs.Common.{◌≡◌, map, bytes_eq, take}
+use Rattle.sv_config.proofs.Prelude.{◌≡◌, map, bytes_eq, take, slice_cmp, list_any, Text}
 use Rattle.std.specs.Ordering.{nat_cmp}
-use Rattle.std.specs.Cmp.Lexicographic.{slice_cmp}
 use Rattle.std.specs.BTreeSet.{contains_by}
-use Rattle.std.specs.List.{list_any}
-use Rattle.sv_mapping.specs.Path.{Text}
 use Rattle.sv_config.proofs.unknown.names_of.Given as goal
 
 abbrev pub invariant-loop-name : goal.invariant-loop-name

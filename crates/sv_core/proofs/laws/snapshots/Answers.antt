@@ -1,6 +1,4 @@
-use Rattle.sv_model.specs.declared.node.Stage.TheVariants.{Blank}
-use Rattle.sv_model.specs.Replay.{blank, replayed}
-use Rattle.sv_core.specs.Snapshot.{staged}
+use Rattle.sv_core.proofs.Prelude.{Blank, blank, replayed, staged}
 use Rattle.sv_core.proofs.SoundLemmas.{sound_blank, sound_replayed}
 use Rattle.sv_core.proofs.SnapshotLemmas.{snapshot_fits, snapshot_gives, snapshot_stage}
 use Rattle.sv_core.proofs.laws.snapshots.Goals as goal

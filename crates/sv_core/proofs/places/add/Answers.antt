@@ -1,6 +1,5 @@
-use Rattle.std.proofs.Common.{sym, subst, ◌∙◌}
+use Rattle.sv_core.proofs.Prelude.{sym, subst, ◌∙◌, IsFound, IsGap}
 use Rattle.std.specs.List as list
-use Rattle.sv_core.specs.Places.{IsFound, IsGap}
 use Rattle.sv_core.proofs.PlaceLemmas.{not_refused}
 use Rattle.sv_core.proofs.places.add.Goals as goal
 

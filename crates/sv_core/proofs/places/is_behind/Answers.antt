@@ -1,5 +1,4 @@
-use Rattle.std.proofs.Common.{sym, ap, ◌∙◌}
-use Rattle.std.specs.Ordering.{is_lt}
+use Rattle.sv_core.proofs.Prelude.{sym, ap, ◌∙◌, is_lt}
 use Rattle.sv_core.proofs.PlaceLemmas.{behind_last}
 use Rattle.sv_core.proofs.places.is_behind.Goals as goal
 

@@ -1,4 +1,4 @@
-use Rattle.std.proofs.Common.{rules}
+use Rattle.sv_core.proofs.Prelude.{rules}
 use Rattle.sv_core.proofs.places.mark.Goals as goal
 
 pub returns-else-is_there-clause-items : goal.returns-else-is_there-clause-items

@@ -1,5 +1,4 @@
-use Rattle.std.proofs.Common.{sym, subst, ◌∙◌}
-use Rattle.sv_core.specs.Places.{IsFound, IsGap}
+use Rattle.sv_core.proofs.Prelude.{sym, subst, ◌∙◌, IsFound, IsGap}
 use Rattle.sv_core.proofs.places.remove.Goals as goal
 
 pub returns-in-Ok-clause-items : goal.returns-in-Ok-clause-items

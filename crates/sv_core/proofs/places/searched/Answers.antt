@@ -1,5 +1,4 @@
-use Rattle.std.proofs.Common.{rules}
-use Rattle.std.proofs.lemmas.List.Sorted.{answers_always}
+use Rattle.sv_core.proofs.Prelude.{rules, answers_always}
 use Rattle.sv_core.proofs.PlaceLemmas.{searched}
 use Rattle.sv_core.proofs.places.searched.Goals as goal
 

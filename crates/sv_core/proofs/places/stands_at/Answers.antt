@@ -1,5 +1,4 @@
-use Rattle.std.proofs.Common.{sym, ap, ◌∙◌}
-use Rattle.std.specs.Ordering.{is_eq}
+use Rattle.sv_core.proofs.Prelude.{sym, ap, ◌∙◌, is_eq}
 use Rattle.sv_core.proofs.PlaceLemmas.{met_at}
 use Rattle.sv_core.proofs.places.stands_at.Goals as goal
 

@@ -1,4 +1,4 @@
-use Rattle.std.proofs.Common.{rules}
+use Rattle.sv_core.proofs.Prelude.{rules}
 use Rattle.sv_core.proofs.row.no.Goals as goal
 
 pub returns-clause-decision : goal.returns-clause-decision

@@ -1,8 +1,5 @@
-use Rattle.std.proofs.Common.{ap, refl, ◌∙◌}
+use Rattle.sv_core.proofs.Prelude.{ap, refl, ◌∙◌, IfOk-weaker, served, node_of}
 use Rattle.std.specs.Prelude.{Some, remove}
-use Rattle.std.proofs.lemmas.Result.{IfOk-weaker}
-use Rattle.sv_model.specs.Serving.{served}
-use Rattle.sv_core.specs.Kept.{node_of}
 use Rattle.sv_core.proofs.WaitingLemmas.{serves_first}
 use Rattle.sv_core.proofs.row.serve_at.Goals as goal
 

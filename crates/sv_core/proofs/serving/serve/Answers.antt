@@ -1,4 +1,4 @@
-use Rattle.std.proofs.Common.{rules}
+use Rattle.sv_core.proofs.Prelude.{rules}
 use Rattle.sv_core.proofs.serving.serve.Goals as goal
 
 pub returns-in-Some-clause-decision : goal.returns-in-Some-clause-decision

@@ -1,5 +1,4 @@
-use Rattle.std.proofs.Common.{◌<◌, length, sym, subst}
-use Rattle.sv_core.specs.Places.{AreBelow}
+use Rattle.sv_core.proofs.Prelude.{◌<◌, length, sym, subst, AreBelow}
 use Rattle.sv_core.proofs.SpareLemmas.{last_below}
 use Rattle.sv_core.proofs.table.put_down.Goals as goal
 

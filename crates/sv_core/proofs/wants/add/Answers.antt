@@ -1,4 +1,4 @@
-use Rattle.std.proofs.Common.{IfOk, IfErr, subst, ◌∙◌}
+use Rattle.sv_core.proofs.Prelude.{IfOk, IfErr, subst, ◌∙◌}
 use Rattle.std.specs.List as list
 use Rattle.sv_core.proofs.PlaceLemmas.{not_refused}
 use Rattle.sv_core.proofs.WantLemmas.{IsThere, IsMissing, searched}

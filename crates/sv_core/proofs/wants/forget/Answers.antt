@@ -1,4 +1,4 @@
-use Rattle.std.proofs.Common.{IfOk, IfErr, subst, ◌∙◌}
+use Rattle.sv_core.proofs.Prelude.{IfOk, IfErr, subst, ◌∙◌}
 use Rattle.sv_core.proofs.WantLemmas.{IsThere, IsMissing, searched}
 use Rattle.sv_core.proofs.wants.forget.Goals as goal
 

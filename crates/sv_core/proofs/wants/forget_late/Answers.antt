@@ -1,7 +1,4 @@
-use Rattle.std.proofs.Common.{◌∙◌, Bool, cond, false, suc, take, drop}
-use Rattle.sv_model.specs.declared.node.Parked.{Parked}
-use Rattle.sv_model.specs.Time.{is_late}
-use Rattle.sv_core.specs.Wants.{wants_where}
+use Rattle.sv_core.proofs.Prelude.{◌∙◌, Bool, cond, false, suc, take, drop, Parked, is_late, wants_where}
 use Rattle.sv_core.proofs.WantLemmas.{is_around, walked_more, all_walked}
 use Rattle.sv_core.proofs.wants.forget_late.Goals as goal
 

@@ -1,7 +1,4 @@
-use Rattle.std.proofs.Common.{◌≡◌, Bool, cond, false}
-use Rattle.sv_model.specs.declared.node.Parked.{Parked}
-use Rattle.sv_model.specs.Time.{is_late}
-use Rattle.sv_core.specs.Wants.{wants_where}
+use Rattle.sv_core.proofs.Prelude.{◌≡◌, Bool, cond, false, Parked, is_late, wants_where}
 use Rattle.sv_core.proofs.WantLemmas.{walked}
 use Rattle.sv_core.proofs.wants.forget_late.Given as goal
 

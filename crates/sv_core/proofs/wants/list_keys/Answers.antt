@@ -1,4 +1,4 @@
-use Rattle.std.proofs.Common.{[], ◌∷◌, ◌++◌, arith, ap, ◌∙◌}
+use Rattle.sv_core.proofs.Prelude.{[], ◌∷◌, ◌++◌, arith, ap, ◌∙◌}
 use Rattle.sv_core.proofs.WantLemmas.{keys_more, keys_all}
 use Rattle.sv_core.proofs.wants.list_keys.Goals as goal
 

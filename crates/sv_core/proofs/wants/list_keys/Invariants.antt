@@ -1,6 +1,4 @@
-use Rattle.std.proofs.Common.{◌≡◌, ◌≤◌, take}
-use Rattle.std.specs.Prelude.{vec_len, vec_capacity}
-use Rattle.sv_core.specs.Wants.{keys_in}
+use Rattle.sv_core.proofs.Prelude.{◌≡◌, ◌≤◌, take, vec_len, vec_capacity, keys_in}
 use Rattle.sv_core.proofs.wants.list_keys.Given as goal
 
 abbrev pub invariant-loop-parked : goal.invariant-loop-parked

@@ -1,5 +1,4 @@
-use Rattle.std.proofs.Common.{rules}
-use Rattle.std.proofs.lemmas.List.Sorted.{answers_always}
+use Rattle.sv_core.proofs.Prelude.{rules, answers_always}
 use Rattle.sv_core.proofs.WantLemmas.{answered}
 use Rattle.sv_core.proofs.wants.search.Goals as goal
 

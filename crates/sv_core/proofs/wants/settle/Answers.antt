@@ -1,5 +1,4 @@
-use Rattle.std.proofs.Common.{◌∙◌, suc, take, drop, arith}
-use Rattle.sv_core.specs.Wants.{wants_where, with_key}
+use Rattle.sv_core.proofs.Prelude.{◌∙◌, suc, take, drop, arith, wants_where, with_key}
 use Rattle.sv_core.proofs.WantLemmas.{is_around, walked_more, all_walked}
 use Rattle.sv_core.proofs.wants.settle.Goals as goal
 

@@ -1,7 +1,4 @@
-use Rattle.std.proofs.Common.{◌≡◌, ◌+◌, ◌≤◌, Bool}
-use Rattle.std.specs.Prelude.{vec_len, vec_capacity}
-use Rattle.sv_model.specs.declared.node.Parked.{Parked}
-use Rattle.sv_core.specs.Wants.{wants_where, with_key}
+use Rattle.sv_core.proofs.Prelude.{◌≡◌, ◌+◌, ◌≤◌, Bool, vec_len, vec_capacity, Parked, wants_where, with_key}
 use Rattle.sv_core.proofs.WantLemmas.{walked}
 use Rattle.sv_core.proofs.wants.settle.Given as goal
 

@@ -1,6 +1,4 @@
-use Rattle.std.proofs.Common.{[], ◌∷◌, ◌++◌, cond, arith, ap, ◌∙◌}
-use Rattle.sv_core.specs.Table.{keys_of, durable_by}
-use Rattle.sv_core.specs.Wants.{is_here}
+use Rattle.sv_core.proofs.Prelude.{[], ◌∷◌, ◌++◌, cond, arith, ap, ◌∙◌, keys_of, durable_by, is_here}
 use Rattle.sv_core.proofs.WantLemmas.{where_more, where_all}
 use Rattle.sv_core.proofs.wants.settle_anew.Goals as goal
 

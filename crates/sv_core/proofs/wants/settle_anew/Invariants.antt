@@ -1,7 +1,4 @@
-use Rattle.std.proofs.Common.{◌≡◌, ◌≤◌, take}
-use Rattle.std.specs.Prelude.{vec_len, vec_capacity}
-use Rattle.sv_core.specs.Table.{keys_of, durable_by}
-use Rattle.sv_core.specs.Wants.{wants_here}
+use Rattle.sv_core.proofs.Prelude.{◌≡◌, ◌≤◌, take, vec_len, vec_capacity, keys_of, durable_by, wants_here}
 use Rattle.sv_core.proofs.wants.settle_anew.Given as goal
 
 abbrev pub invariant-loop-parked : goal.invariant-loop-parked

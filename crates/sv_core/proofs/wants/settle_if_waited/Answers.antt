@@ -1,4 +1,4 @@
-use Rattle.std.proofs.Common.{sym, ◌∙◌}
+use Rattle.sv_core.proofs.Prelude.{sym, ◌∙◌}
 use Rattle.sv_core.proofs.WantLemmas.{nobody_waits}
 use Rattle.sv_core.proofs.wants.settle_if_waited.Goals as goal
 

@@ -1,5 +1,4 @@
-use Rattle.std.proofs.Common.{cond, ap, sym, ◌∙◌}
-use Rattle.sv_core.specs.Wants.{around}
+use Rattle.sv_core.proofs.Prelude.{cond, ap, sym, ◌∙◌, around}
 use Rattle.sv_core.proofs.wants.settle_one.Goals as goal
 
 pub returns-then-is_settled-clause-items : goal.returns-then-is_settled-clause-items

@@ -1,4 +1,4 @@
-use Rattle.std.proofs.Common.{rules}
+use Rattle.sv_core.proofs.Prelude.{rules}
 use Rattle.sv_core.proofs.wants.settles.Goals as goal
 
 pub returns-in-Taken : goal.returns-in-Taken

@@ -2,10 +2,7 @@ use Rattle.std.proofs.Common.{◌≡◌, ◌≤◌, ◌+◌, ℕ, List, [], ◌�
 use Rattle.std.proofs.lemmas.List.{map-append, take_more}
 use Rattle.std.proofs.lemmas.List.Elements.{All-push}
 use Rattle.std.specs.List.{All}
-use Rattle.sv_journal.specs.Format.{payloads}
-use Rattle.sv_model.specs.declared.record.Record.{Record}
-use Rattle.sv_record.specs.Record.{spelling}
-use Rattle.sv_node.specs.Records.{Spell}
+use Rattle.sv_node.proofs.Prelude.{payloads, Record, spelling, Spell}
 use Rattle.sv_node.proofs.RecordLemmas.{map_more, spell_more, written}
 use Rattle.sv_node.proofs.compaction.payloads_of.Goals as goal
 

@@ -1,8 +1,6 @@
 use Rattle.std.specs.Prelude.{◌≡◌, ◌≤◌, length, map, take}
 use Rattle.std.specs.List.{All}
-use Rattle.sv_journal.specs.Format.{payloads}
-use Rattle.sv_record.specs.Record.{spelling}
-use Rattle.sv_node.specs.Records.{Spell}
+use Rattle.sv_node.proofs.Prelude.{payloads, spelling, Spell}
 use Rattle.sv_node.proofs.compaction.payloads_of.Given as goal
 
 abbrev pub invariant-loop-entry : goal.invariant-loop-entry

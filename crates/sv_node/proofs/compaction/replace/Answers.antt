@@ -1,10 +1,6 @@
 use Rattle.std.proofs.Common.{◌≡◌, ◌∙◌, List, ℕ, map, refl, sym, subst, ap}
 use Rattle.std.proofs.lemmas.Result.{on_ok_weaker}
-use Rattle.sv_journal.specs.Disk.{LeavesOnly}
-use Rattle.sv_journal.specs.Format.{payloads, OpensReplaced}
-use Rattle.sv_record.specs.Record.{spelling}
-use Rattle.sv_node.specs.Compaction.{written, RestoresBeside}
-use Rattle.sv_node.specs.Records.{Spell, Replays}
+use Rattle.sv_node.proofs.Prelude.{LeavesOnly, payloads, OpensReplaced, spelling, written, RestoresBeside, Spell, Replays}
 use Rattle.sv_node.proofs.CompactionLemmas.{written_turned, written_stayed, replacing, unmoved, unmoved_entries, by_answer, ok_both}
 use Rattle.sv_node.proofs.compaction.replace.Goals as goal
 

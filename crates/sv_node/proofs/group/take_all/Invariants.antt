@@ -2,8 +2,7 @@ use Rattle.std.proofs.Common.{◌≡◌, ◌+◌, ◌≤◌, length, vec_len, ve
 use Rattle.std.specs.List.{AllByRecursion}
 use Rattle.std.specs.Vec.Iter.{into_iter_items, into_iter_len}
 use Rattle.sv_core.specs.Core.{engine_of, node_at, setting_of}
-use Rattle.sv_model.specs.Ranges.{IsInput, IsRanged}
-use Rattle.sv_node.specs.Group.{FitsIn}
+use Rattle.sv_node.proofs.Prelude.{IsInput, IsRanged, FitsIn}
 use Rattle.sv_node.proofs.GroupLemmas.{Taking}
 use Rattle.sv_node.proofs.group.take_all.Given as goal
 

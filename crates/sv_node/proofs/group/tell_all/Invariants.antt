@@ -2,9 +2,7 @@ use Rattle.std.proofs.Common.{◌≡◌, ◌+◌, ◌≤◌, ◌++◌, length, m
 use Rattle.std.specs.List.{flat_map}
 use Rattle.std.specs.Vec.Iter.{into_iter_items, into_iter_len}
 use Rattle.sv_core.specs.Core.{engine_of, node_at, setting_of}
-use Rattle.sv_model.specs.Engine.{heard_all}
-use Rattle.sv_model.specs.Site.{with_list}
-use Rattle.sv_node.specs.Group.{events_held, outcomes}
+use Rattle.sv_node.proofs.Prelude.{heard_all, with_list, events_held, outcomes}
 use Rattle.sv_node.proofs.group.tell_all.Given as goal
 
 abbrev pub invariant-loop-one : goal.invariant-loop-one

@@ -1,8 +1,6 @@
 use Rattle.std.proofs.Common.{ℕ, List, [], ◌∷◌, ◌++◌, ◌+◌, ◌∙◌, length, ap, subst}
 use Rattle.std.proofs.lemmas.Result.{on_ok_weaker}
-use Rattle.sv_journal.specs.Disk.{LeavesOnly}
-use Rattle.sv_journal.specs.Format.{OpensEither}
-use Rattle.sv_journal.specs.Journal.{Holds}
+use Rattle.sv_node.proofs.Prelude.{LeavesOnly, OpensEither, Holds}
 use Rattle.sv_node.proofs.StopLemmas.{adding, added, still_entries}
 use Rattle.sv_node.proofs.ledger.add.Goals as goal
 

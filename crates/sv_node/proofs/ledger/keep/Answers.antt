@@ -2,16 +2,7 @@ use Rattle.std.proofs.Common.{◌≡◌, ◌++◌, ℕ, List, map, ap, sym, subs
 use Rattle.std.proofs.lemmas.List.{append-nil}
 use Rattle.std.specs.Option.{option_to_list}
 use Rattle.std.specs.Prelude.{OnOk, option_copied}
-use Rattle.sv_journal.specs.Disk.{LeavesOnly}
-use Rattle.sv_journal.specs.Journal.{Holds}
-use Rattle.sv_model.specs.declared.node.Setting.{Setting}
-use Rattle.sv_model.specs.declared.record.Record.{Record}
-use Rattle.sv_model.specs.NodeState.{Durable}
-use Rattle.sv_model.specs.Replay.{applied_if}
-use Rattle.sv_record.specs.Record.{spelling}
-use Rattle.sv_node.specs.Node.{HasAdded}
-use Rattle.sv_node.specs.Records.{CanFollow}
-use Rattle.sv_node.specs.Stops.{Stores, RestoresEither, LeavesAdded}
+use Rattle.sv_node.proofs.Prelude.{LeavesOnly, Holds, Setting, Record, Durable, applied_if, spelling, HasAdded, CanFollow, Stores, RestoresEither, LeavesAdded}
 use Rattle.sv_node.proofs.StopLemmas.{still_entries}
 use Rattle.sv_node.proofs.ledger.keep.Goals as goal
 

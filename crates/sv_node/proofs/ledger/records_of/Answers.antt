@@ -2,11 +2,7 @@ use Rattle.std.proofs.Common.{◌∷◌, ◌++◌, [], ◌≡◌, ◌∙◌, ◌
 use Rattle.std.proofs.lemmas.List.{drop_more, map-append, take_more}
 use Rattle.std.specs.List.{AllByRecursion}
 use Rattle.std.specs.List.{drop-map}
-use Rattle.sv_journal.specs.Format.{payloads}
-use Rattle.sv_model.specs.declared.record.Record.{Record}
-use Rattle.sv_record.specs.Record.{IsSpelling}
-use Rattle.sv_model.specs.Ranges.{IsRecord}
-use Rattle.sv_node.specs.Records.{Spell}
+use Rattle.sv_node.proofs.Prelude.{payloads, Record, IsSpelling, IsRecord, Spell}
 use Rattle.sv_node.proofs.RecordLemmas.{nowhere, spell_more, all_more}
 use Rattle.sv_node.proofs.ledger.records_of.Goals as goal
 

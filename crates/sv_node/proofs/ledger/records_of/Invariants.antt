@@ -1,8 +1,6 @@
 use Rattle.std.specs.Prelude.{take}
 use Rattle.std.specs.List.{AllByRecursion}
-use Rattle.sv_journal.specs.Format.{payloads}
-use Rattle.sv_model.specs.Ranges.{IsRecord}
-use Rattle.sv_node.specs.Records.{Spell}
+use Rattle.sv_node.proofs.Prelude.{payloads, IsRecord, Spell}
 use Rattle.sv_node.proofs.ledger.records_of.Given as goal
 
 abbrev pub invariant-loop-payload : goal.invariant-loop-payload

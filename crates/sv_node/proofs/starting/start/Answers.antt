@@ -2,15 +2,8 @@ use Rattle.std.proofs.Common.{◌≡◌, ◌∙◌, ◌++◌, map, Option, Some,
 use Rattle.std.specs.Option.{option_to_list}
 use Rattle.std.specs.Prelude.{option_copied, IfSome}
 use Rattle.sv_core.specs.Core.{setting_of, node_at, durable_at, decision_at, starts}
-use Rattle.sv_journal.specs.Disk.{LeavesOnly}
-use Rattle.sv_journal.specs.Journal.{Holds}
-use Rattle.sv_model.specs.declared.record.Record.{Record}
-use Rattle.sv_model.specs.Replay.{boot_record, applied_if}
+use Rattle.sv_node.proofs.Prelude.{LeavesOnly, Holds, Record, boot_record, applied_if, spelling, HasAdded, CanFollow, RestoresEither}
 use Rattle.sv_node.proofs.OpenLemmas.{start_follows}
-use Rattle.sv_record.specs.Record.{spelling}
-use Rattle.sv_node.specs.Node.{HasAdded}
-use Rattle.sv_node.specs.Records.{CanFollow}
-use Rattle.sv_node.specs.Stops.{RestoresEither}
 use Rattle.sv_node.proofs.starting.start.Goals as goal
 
 pub returns-in-Err-keep-clause-any_moment : goal.returns-in-Err-keep-clause-any_moment

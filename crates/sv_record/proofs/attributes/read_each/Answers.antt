@@ -2,10 +2,7 @@ use Rattle.std.proofs.Common.{◌≡◌, ◌≤◌, ◌+◌, ◌++◌, [], ◌�
 use Rattle.std.proofs.lemmas.Result.{err_from_is_err_and}
 use Rattle.sv_model.specs.Attributes.{Attribute, attributes_size}
 use Rattle.sv_model.proofs.AttributesLemmas.{attributes_size-nil, attributes_size-push}
-use Rattle.sv_record.specs.Reading.{Reading, Fails}
-use Rattle.sv_record.specs.Format.{reads}
-use Rattle.sv_record.specs.Version.{session_limit}
-use Rattle.sv_record.specs.Session.{Before, attribute, behind, at_first}
+use Rattle.sv_record.proofs.Prelude.{Reading, Fails, reads, session_limit, Before, attribute, behind, at_first}
 use Rattle.sv_record.proofs.Loop.{starts, goes_on, ends}
 use Rattle.sv_record.proofs.RangeLemmas.{session_limit_small}
 use Rattle.sv_record.proofs.Names.{above_all, up_to_next}

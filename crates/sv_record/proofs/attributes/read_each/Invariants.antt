@@ -1,8 +1,5 @@
 use Rattle.std.proofs.Common.{◌≡◌, ◌≤◌, ◌-◌}
-use Rattle.sv_model.specs.Attributes.{attributes_size}
-use Rattle.sv_record.specs.Format.{reads}
-use Rattle.sv_record.specs.Version.{session_limit}
-use Rattle.sv_record.specs.Session.{attribute, behind, at_first}
+use Rattle.sv_record.proofs.Prelude.{attributes_size, reads, session_limit, attribute, behind, at_first}
 use Rattle.sv_record.proofs.Loop.{with_front}
 use Rattle.sv_record.proofs.Names.{UpTo}
 use Rattle.sv_record.proofs.attributes.read_each.Given as goal

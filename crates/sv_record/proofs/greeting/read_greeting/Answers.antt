@@ -1,6 +1,5 @@
 use Rattle.std.proofs.Common.{◌∙◌, arith, ap, subst}
-use Rattle.sv_record.specs.Reading.{Gives}
-use Rattle.sv_record.specs.Greeting.{greeting_of}
+use Rattle.sv_record.proofs.Prelude.{Gives, greeting_of}
 use Rattle.sv_record.proofs.GreetingLaws.{read_again, read_within}
 use Rattle.sv_record.proofs.greeting.read_greeting.Goals as goal
 

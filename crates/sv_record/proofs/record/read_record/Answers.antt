@@ -1,7 +1,6 @@
 use Rattle.std.proofs.Common.{subst, arith}
 use Rattle.std.proofs.lemmas.Result.{IfOk-weaker}
-use Rattle.sv_record.specs.Reading.{Gives}
-use Rattle.sv_record.specs.Record.{record_format}
+use Rattle.sv_record.proofs.Prelude.{Gives, record_format}
 use Rattle.sv_record.proofs.KindLaws.{record_lawful}
 use Rattle.sv_record.proofs.RangeLemmas.{record_range}
 use Rattle.sv_record.proofs.WholeLaws.{whole_gives, whole_found}

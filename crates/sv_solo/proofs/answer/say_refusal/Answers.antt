@@ -1,8 +1,5 @@
 use Rattle.std.proofs.Common.{subst}
-use Rattle.sv_model.specs.declared.response.Response.{Response}
-use Rattle.sv_connection.specs.Connection.{is_closed}
-use Rattle.sv_connection.specs.Speak.{IsSaid}
-use Rattle.sv_connection.specs.declared.outcome.Outcome.TheVariants.{Answered}
+use Rattle.sv_solo.proofs.Prelude.{Response, is_closed, IsSaid, Answered}
 use Rattle.sv_solo.proofs.answer.say_refusal.Goals as goal
 
 pub returns-in-Ok-clause-said : goal.returns-in-Ok-clause-said

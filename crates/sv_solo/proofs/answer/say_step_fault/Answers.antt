@@ -1,13 +1,8 @@
 use Rattle.std.proofs.Common.{◌≡◌, Err, ⊎_elim, subst, sym, ap, ◌∙◌}
 use Rattle.sv_model.specs.Cause.{cause_of}
-use Rattle.sv_model.specs.declared.output.Cause.{Cause}
-use Rattle.sv_model.specs.declared.site.StepFault.{StepFault}
+use Rattle.sv_solo.proofs.Prelude.{Cause, StepFault, is_closed, IsSaid, Follows, verdict, Answered}
 use Rattle.sv_model.specs.declared.site.StepFault.TheVariants.{Full, Memory}
 use Rattle.sv_solo.specs.Reply.{refusal}
-use Rattle.sv_connection.specs.Connection.{is_closed}
-use Rattle.sv_connection.specs.Speak.{IsSaid}
-use Rattle.sv_solo.specs.Serve.{Follows, verdict}
-use Rattle.sv_connection.specs.declared.outcome.Outcome.TheVariants.{Answered}
 use Rattle.sv_solo.proofs.answer.say_step_fault.Goals as goal
 
 pub returns-in-Full-clause-follows : goal.returns-in-Full-clause-follows

@@ -1,6 +1,5 @@
 use Rattle.std.proofs.Common.{[]}
-use Rattle.sv_solo.specs.Table.{alone, node_of}
-use Rattle.sv_model.specs.Alone.{trace_of}
+use Rattle.sv_solo.proofs.Prelude.{alone, node_of, trace_of}
 use Rattle.sv_solo.proofs.TraceLemmas.{all_runs, acknowledged, served_once}
 use Rattle.sv_solo.proofs.laws.acknowledged.Goals as goal
 

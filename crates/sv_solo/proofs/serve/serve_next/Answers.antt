@@ -1,7 +1,6 @@
 use Rattle.std.proofs.Common.{ap, refl, List, ℕ}
 use Rattle.std.specs.Io.KnownBytes.{prepend_known}
-use Rattle.sv_connection.specs.Connection.{held_by, is_single}
-use Rattle.sv_solo.specs.Serve.{how}
+use Rattle.sv_solo.proofs.Prelude.{held_by, is_single, how}
 use Rattle.sv_solo.proofs.ServeLemmas.{asked_by, refused_by}
 use Rattle.sv_solo.proofs.serve.serve_next.Goals as goal
 

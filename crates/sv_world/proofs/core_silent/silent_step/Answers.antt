@@ -1,8 +1,6 @@
-use Rattle.std.proofs.Common.{Result, Ok, ◌∙◌, ap, ◌++◌}
-use Rattle.std.specs.Option.{option_to_list}
-use Rattle.sv_core.specs.Core.{setting_of, node_at, engine_of}
-use Rattle.sv_world.specs.CoreStep.{row_at}
-use Rattle.sv_world.specs.declared.line.Effect.{Effect}
+use Rattle.sv_world.proofs.Prelude.{◌∙◌, ap, ◌++◌, option_to_list, node_at, engine_of, row_at, Effect}
+use Rattle.std.proofs.Common.{Result, Ok}
+use Rattle.sv_core.specs.Core.{setting_of}
 use Rattle.sv_world.proofs.CoreStepLemmas.{over_plan}
 use Rattle.sv_world.proofs.core_silent.silent_step.Goals as goal
 

@@ -1,10 +1,5 @@
-use Rattle.std.proofs.Common.{◌∙◌, ◌++◌, ap, subst}
-use Rattle.std.specs.Option.{option_to_list}
-use Rattle.std.specs.Prelude.{IfSome}
-use Rattle.sv_model.specs.Journaled.{IsJournaled}
-use Rattle.sv_model.specs.NodeState.{Node}
-use Rattle.sv_model.specs.Replay.{applied_if}
-use Rattle.sv_core.specs.Core.{setting_of, node_at, decision_at}
+use Rattle.sv_world.proofs.Prelude.{◌∙◌, ◌++◌, ap, subst, option_to_list, IfSome, IsJournaled, Node, applied_if, node_at, decision_at}
+use Rattle.sv_core.specs.Core.{setting_of}
 use Rattle.sv_world.specs.declared.core_start.BootPlan.{BootPlan}
 use Rattle.sv_world.proofs.CoreStepLemmas.{over_more}
 use Rattle.sv_world.proofs.core_start.begin.Goals as goal

@@ -1,4 +1,4 @@
-use Rattle.std.proofs.Common.{rules}
+use Rattle.sv_world.proofs.Prelude.{rules}
 use Rattle.sv_world.proofs.core_torn.torn_rest.Goals as goal
 
 pub returns-clause-view : goal.returns-clause-view

@@ -1,4 +1,4 @@
-use Rattle.std.proofs.Common.{rules}
+use Rattle.sv_world.proofs.Prelude.{rules}
 use Rattle.sv_world.proofs.core_whole.prepare.Goals as goal
 
 pub returns-in_err-make_room-clause-packets : goal.returns-in_err-make_room-clause-packets

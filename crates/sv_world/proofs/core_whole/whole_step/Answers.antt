@@ -1,5 +1,5 @@
-use Rattle.sv_core.specs.Core.{setting_of, node_at, engine_of}
-use Rattle.sv_world.specs.CoreStep.{row_at}
+use Rattle.sv_world.proofs.Prelude.{node_at, engine_of, row_at}
+use Rattle.sv_core.specs.Core.{setting_of}
 use Rattle.sv_world.proofs.CoreStepLemmas.{over_plan}
 use Rattle.sv_world.proofs.core_whole.whole_step.Goals as goal
 

@@ -1,8 +1,6 @@
-use Rattle.std.proofs.Common.{◌≡◌, ◌<◌, ◌+◌, ◌∷◌, [], ◌++◌, take, length, arith, sym, ap, ◌∙◌, subst, length-drop, List}
+use Rattle.sv_world.proofs.Prelude.{◌≡◌, ◌<◌, ◌∷◌, [], ◌++◌, arith, sym, ap, ◌∙◌, subst, List, setting_by, Slot, AreFilled}
+use Rattle.std.proofs.Common.{◌+◌, take, length, length-drop}
 use Rattle.std.proofs.lemmas.List.{length_push}
-use Rattle.sv_world.specs.Rules.{setting_by}
-use Rattle.sv_world.specs.declared.slot.Slot.{Slot}
-use Rattle.sv_world.specs.Making.{AreFilled}
 use Rattle.sv_world.proofs.MakingLemmas.{first_rest, more_dropped, more_taken, one_filled}
 use Rattle.sv_world.proofs.filling.fill_slots.Goals as goal
 

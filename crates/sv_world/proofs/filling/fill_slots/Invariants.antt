@@ -1,6 +1,5 @@
-use Rattle.std.proofs.Common.{◌≡◌, take, drop, length}
-use Rattle.std.specs.Prelude.{vec_capacity}
-use Rattle.sv_world.specs.Making.{AreFilled}
+use Rattle.sv_world.proofs.Prelude.{◌≡◌, drop, vec_capacity, AreFilled}
+use Rattle.std.proofs.Common.{take, length}
 use Rattle.sv_world.proofs.filling.fill_slots.Given as goal
 
 abbrev pub invariant-loop-node : goal.invariant-loop-node

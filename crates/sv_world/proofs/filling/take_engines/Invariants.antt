@@ -1,6 +1,5 @@
-use Rattle.std.proofs.Common.{◌≡◌, map, take, drop, length, Some}
-use Rattle.std.specs.Prelude.{vec_capacity}
-use Rattle.sv_world.specs.Slot.{engine_in}
+use Rattle.sv_world.proofs.Prelude.{◌≡◌, drop, Some, vec_capacity, engine_in}
+use Rattle.std.proofs.Common.{map, take, length}
 use Rattle.sv_world.proofs.filling.take_engines.Given as goal
 
 abbrev pub invariant-loop-count : goal.invariant-loop-count

@@ -1,4 +1,5 @@
-use Rattle.std.proofs.Common.{◌∙◌, slice_get}
+use Rattle.sv_world.proofs.Prelude.{◌∙◌}
+use Rattle.std.proofs.Common.{slice_get}
 use Rattle.sv_model.specs.declared.input.Input.TheVariants as input
 use Rattle.sv_world.proofs.FindingLemmas.{steps, delivers, stops}
 use Rattle.sv_world.proofs.finding.fault_of.Goals as goal

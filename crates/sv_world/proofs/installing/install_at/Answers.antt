@@ -1,9 +1,5 @@
-use Rattle.std.proofs.Common.{◌<◌, length, sym, ap, ◌∙◌, refl}
-use Rattle.std.specs.Option.{option_map}
-use Rattle.std.proofs.lemmas.Option.{slice_get_read}
-use Rattle.std.proofs.lemmas.List.Elements.{All-set}
-use Rattle.sv_world.specs.Slot.{IsSlot}
-use Rattle.sv_world.specs.Worlds.{meant_in}
+use Rattle.sv_world.proofs.Prelude.{◌<◌, sym, ap, ◌∙◌, refl, option_map, slice_get_read, All-set, IsSlot, meant_in}
+use Rattle.std.proofs.Common.{length}
 use Rattle.sv_world.proofs.NodeLemmas.{installed, members_same, settings_same, meanings_same, undone}
 use Rattle.sv_world.proofs.installing.install_at.Goals as goal
 

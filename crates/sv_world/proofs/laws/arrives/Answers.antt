@@ -1,4 +1,4 @@
-use Rattle.sv_world.specs.World.{run, nothing_happened}
+use Rattle.sv_world.proofs.Prelude.{run, nothing_happened}
 use Rattle.sv_world.proofs.PromiseLemmas.{both}
 use Rattle.sv_world.proofs.RoundLemmas.{arrives_by_tick, arrives_in_a_round, is_done_in_two}
 use Rattle.sv_world.proofs.ServedLemmas.{served_in_a_round}

@@ -1,4 +1,4 @@
-use Rattle.sv_world.specs.World.{run, nothing_happened}
+use Rattle.sv_world.proofs.Prelude.{run, nothing_happened}
 use Rattle.sv_world.proofs.HeadlineLemmas.{parts, is_told}
 use Rattle.sv_world.proofs.laws.heard.Goals as goal
 

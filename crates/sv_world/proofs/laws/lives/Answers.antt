@@ -1,4 +1,4 @@
-use Rattle.sv_world.specs.World.{run, nothing_happened}
+use Rattle.sv_world.proofs.Prelude.{run, nothing_happened}
 use Rattle.sv_world.proofs.HeadlineLemmas.{parts, at_most_one}
 use Rattle.sv_world.proofs.Runs.{agree}
 use Rattle.sv_world.proofs.laws.lives.Goals as goal

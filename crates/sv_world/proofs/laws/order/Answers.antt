@@ -1,4 +1,4 @@
-use Rattle.sv_world.specs.World.{run, nothing_happened}
+use Rattle.sv_world.proofs.Prelude.{run, nothing_happened}
 use Rattle.sv_world.proofs.HeadlineLemmas.{parts}
 use Rattle.sv_world.proofs.Runs.{map_has, map_only}
 use Rattle.sv_world.proofs.laws.order.Goals as goal

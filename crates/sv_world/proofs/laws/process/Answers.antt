@@ -1,5 +1,5 @@
-use Rattle.std.proofs.Common.{◌≡◌, true, false, arith, ap}
-use Rattle.sv_node.specs.History.{Stand, halted}
+use Rattle.sv_world.proofs.Prelude.{◌≡◌, true, false, arith, ap, Stand}
+use Rattle.sv_node.specs.History.{halted}
 use Rattle.sv_world.proofs.LivesLemmas.{turns_by}
 use Rattle.sv_world.proofs.laws.process.Goals as goal
 

@@ -1,4 +1,4 @@
-use Rattle.sv_world.specs.World.{run, nothing_happened}
+use Rattle.sv_world.proofs.Prelude.{run, nothing_happened}
 use Rattle.sv_world.proofs.PromiseLemmas.{both}
 use Rattle.sv_world.proofs.WindowLemmas.{is_served, is_served_in_two, is_served_at_last, is_denied_in_two}
 use Rattle.sv_world.proofs.laws.serves.Goals as goal

@@ -1,4 +1,4 @@
-use Rattle.sv_world.specs.World.{run, nothing_happened}
+use Rattle.sv_world.proofs.Prelude.{run, nothing_happened}
 use Rattle.sv_world.proofs.EpochLemmas.{epochs_rise, stays_at_hand}
 use Rattle.sv_world.proofs.PromiseLemmas.{both}
 use Rattle.sv_world.proofs.laws.stays.Goals as goal

@@ -1,6 +1,5 @@
-use Rattle.std.proofs.Common.{arith}
+use Rattle.sv_world.proofs.Prelude.{arith, filter_map-append}
 use Rattle.std.proofs.lemmas.Grind.{common_steps}
-use Rattle.std.proofs.lemmas.List.Elements.{filter_map-append}
 use Rattle.sv_world.proofs.outputs.sends_in.Goals as goal
 
 pub loop-output-preserved : goal.loop-output-preserved

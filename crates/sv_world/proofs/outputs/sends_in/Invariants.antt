@@ -1,5 +1,5 @@
-use Rattle.std.proofs.Common.{◌≡◌, take}
-use Rattle.sv_model.specs.Outputs.{sends_in}
+use Rattle.sv_world.proofs.Prelude.{◌≡◌, sends_in}
+use Rattle.std.proofs.Common.{take}
 use Rattle.sv_world.proofs.outputs.sends_in.Given as goal
 
 abbrev pub invariant-loop-output : goal.invariant-loop-output

@@ -1,8 +1,5 @@
-use Rattle.std.proofs.Common.{◌<◌, length, sym, ap, ◌∙◌, refl}
-use Rattle.std.proofs.lemmas.Option.{slice_get_read}
-use Rattle.std.proofs.lemmas.List.Elements.{All-set}
-use Rattle.sv_world.specs.Slot.{IsSlot}
-use Rattle.sv_world.specs.Worlds.{meant_in}
+use Rattle.sv_world.proofs.Prelude.{◌<◌, sym, ap, ◌∙◌, refl, slice_get_read, All-set, IsSlot, meant_in}
+use Rattle.std.proofs.Common.{length}
 use Rattle.sv_world.proofs.NodeLemmas.{settings_same, meanings_same, done, undone, ok_then, err_then}
 use Rattle.sv_world.proofs.perform_at.perform_at.Goals as goal
 

@@ -1,6 +1,4 @@
-use Rattle.std.proofs.Common.{◌≡◌, drop}
-use Rattle.std.specs.List.{list_any}
-use Rattle.sv_world.specs.Sent.{same_packet}
+use Rattle.sv_world.proofs.Prelude.{◌≡◌, drop, list_any, same_packet}
 use Rattle.sv_world.proofs.sent.was_sent.Given as goal
 
 abbrev pub invariant-loop-sent : goal.invariant-loop-sent

@@ -1,5 +1,5 @@
-use Rattle.std.proofs.Common.{ap, sym, ◌∙◌, length, ◌≡◌, arith}
-use Rattle.sv_world.specs.Traced.{parted}
+use Rattle.sv_world.proofs.Prelude.{ap, sym, ◌∙◌, ◌≡◌, arith, parted}
+use Rattle.std.proofs.Common.{length}
 use Rattle.sv_world.proofs.TracedLemmas.{parted_is}
 use Rattle.sv_world.proofs.traced.parted.Goals as goal
 

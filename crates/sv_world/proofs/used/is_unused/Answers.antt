@@ -1,5 +1,4 @@
-use Rattle.std.proofs.Common.{sym, ap, ◌∙◌}
-use Rattle.std.specs.Prelude.{not}
+use Rattle.sv_world.proofs.Prelude.{sym, ap, ◌∙◌, not}
 use Rattle.sv_world.proofs.Arrivals.{unused_is}
 use Rattle.sv_world.proofs.used.is_unused.Goals as goal
 

@@ -1,4 +1,4 @@
-use Rattle.std.proofs.Common.{Some, None, [], ◌∷◌, ◌++◌, ap, ◌∙◌}
+use Rattle.sv_core.proofs.Prelude.{Some, None, [], ◌∷◌, ◌++◌, ap, ◌∙◌}
 use Rattle.sv_core.specs.declared.decision.Waiting.TheVariants.{Stays}
 use Rattle.sv_core.proofs.decision.Decision.recorded.Goals as goal
 

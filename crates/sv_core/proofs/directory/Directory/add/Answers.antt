@@ -1,6 +1,4 @@
-use Rattle.std.proofs.Common.{◌++◌, sym, ap, subst, ◌∙◌}
-use Rattle.sv_core.specs.Places.{Rises, AreLow, AreHigh}
-use Rattle.sv_core.specs.Directory.{places_in}
+use Rattle.sv_core.proofs.Prelude.{◌++◌, sym, ap, subst, ◌∙◌, Rises, AreLow, AreHigh, places_in}
 use Rattle.sv_core.proofs.PlaceLemmas.{put_rises}
 use Rattle.sv_core.proofs.DirectoryLemmas.{front_rises, back_rises, put_low, low_put, put_high, high_put}
 use Rattle.sv_core.proofs.directory.Directory.add.Goals as goal

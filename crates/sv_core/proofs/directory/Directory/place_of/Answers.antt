@@ -1,7 +1,4 @@
-use Rattle.std.proofs.Common.{sym, ap, subst, ◌∙◌}
-use Rattle.std.specs.FinMap.{find}
-use Rattle.sv_model.specs.Keys.{key_cmp}
-use Rattle.sv_core.specs.Places.{Rises}
+use Rattle.sv_core.proofs.Prelude.{sym, ap, subst, ◌∙◌, find, key_cmp, Rises}
 use Rattle.sv_core.proofs.DirectoryLemmas.{front_rises, back_rises, find_low, find_high}
 use Rattle.sv_core.proofs.directory.Directory.place_of.Goals as goal
 

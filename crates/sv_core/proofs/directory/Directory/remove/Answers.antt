@@ -1,6 +1,4 @@
-use Rattle.std.proofs.Common.{◌++◌, sym, ap, subst, ◌∙◌}
-use Rattle.sv_core.specs.Places.{Rises, AreLow, AreHigh}
-use Rattle.sv_core.specs.Directory.{places_in}
+use Rattle.sv_core.proofs.Prelude.{◌++◌, sym, ap, subst, ◌∙◌, Rises, AreLow, AreHigh, places_in}
 use Rattle.sv_core.proofs.EraseLemmas.{erase_rises}
 use Rattle.sv_core.proofs.DirectoryLemmas.{front_rises, back_rises, erase_low, low_erased, erase_high, high_erased}
 use Rattle.sv_core.proofs.directory.Directory.remove.Goals as goal

@@ -1,13 +1,7 @@
-use Rattle.std.proofs.Common.{◌≡◌, ℕ, ◌+◌, ◌<◌, true, false, cond, List, [], ◌∷◌, ◌++◌, map, length, get_or, take, arith, sym, ap, ◌∙◌}
-use Rattle.std.specs.List.{filter}
-use Rattle.std.proofs.lemmas.List.{append_assoc, append-nil, map-append, take_more, take_all}
-use Rattle.std.proofs.lemmas.List.Elements.{filter-append}
-use Rattle.sv_model.specs.declared.node.Setting.{Setting}
-use Rattle.sv_model.specs.declared.node.Parked.{Parked}
-use Rattle.sv_model.specs.declared.output.Output.{Output}
+use Rattle.sv_core.proofs.Prelude.{◌≡◌, ℕ, ◌+◌, ◌<◌, true, false, cond, List, [], ◌∷◌, ◌++◌, map, length, get_or, take, arith, sym, ap, ◌∙◌, filter}
+use Rattle.sv_core.proofs.Prelude.{append_assoc, append-nil, map-append, take_more, take_all, filter-append, Setting, Parked, Output, is_late, deadlines}
 use Rattle.sv_model.specs.declared.output.Output.TheVariants.{Refuse}
 use Rattle.sv_model.specs.declared.output.Cause.TheVariants.{Deadline}
-use Rattle.sv_model.specs.Time.{is_late, deadlines}
 use Rattle.sv_core.proofs.kept.Kept.add_deadlines.Goals.{then-is_late+in_ok-push, else-is_late}
 use Rattle.sv_core.proofs.kept.Kept.add_deadlines.Goals as goal
 

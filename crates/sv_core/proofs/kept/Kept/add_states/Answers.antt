@@ -1,6 +1,4 @@
-use Rattle.std.proofs.Common.{length, map, refl, ap, ◌∙◌, ◌++◌}
-use Rattle.sv_core.specs.Places.{seen}
-use Rattle.sv_core.specs.Snapshot.{state_record}
+use Rattle.sv_core.proofs.Prelude.{length, map, refl, ap, ◌∙◌, ◌++◌, seen, state_record}
 use Rattle.sv_core.proofs.PlaceLemmas.{place_within, take_all}
 use Rattle.sv_core.proofs.SnapshotLemmas.{recorded_more}
 use Rattle.sv_core.proofs.kept.Kept.add_states.Goals as goal

@@ -1,6 +1,4 @@
-use Rattle.std.proofs.Common.{◌≡◌, ◌++◌, map, take}
-use Rattle.sv_core.specs.Snapshot.{state_record}
-use Rattle.sv_core.specs.Places.{seen}
+use Rattle.sv_core.proofs.Prelude.{◌≡◌, ◌++◌, map, take, state_record, seen}
 use Rattle.sv_core.proofs.kept.Kept.add_states.Given as goal
 
 abbrev pub invariant-loop-key : goal.invariant-loop-key

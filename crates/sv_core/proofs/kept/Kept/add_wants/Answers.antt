@@ -1,15 +1,5 @@
-use Rattle.std.proofs.Common.{◌≡◌, ℕ, suc, ◌+◌, Bool, true, false, cond, List, [], ◌∷◌, ◌++◌, map, arith, sym, ap, subst, ◌∙◌}
-use Rattle.std.specs.Prelude.{not, ◌==◌}
-use Rattle.std.specs.List.{filter}
-use Rattle.std.proofs.lemmas.Bool.Decides.{nat_tests}
-use Rattle.std.proofs.lemmas.List.{append_assoc, append-nil, map-append}
-use Rattle.std.proofs.lemmas.List.Elements.{filter-append}
-use Rattle.sv_model.specs.declared.node.Setting.{Setting}
-use Rattle.sv_model.specs.declared.key.Key.{Key}
-use Rattle.sv_model.specs.declared.output.Output.{Output}
-use Rattle.sv_model.specs.declared.output.Output.TheVariants.{Send}
-use Rattle.sv_model.specs.declared.packet.Packet.TheVariants.{Want}
-use Rattle.sv_model.specs.Waiting.{numbers}
+use Rattle.sv_core.proofs.Prelude.{◌≡◌, ℕ, suc, ◌+◌, Bool, true, false, cond, List, [], ◌∷◌, ◌++◌, map, arith, sym, ap, subst, ◌∙◌, not, ◌==◌, filter}
+use Rattle.sv_core.proofs.Prelude.{nat_tests, append_assoc, append-nil, map-append, filter-append, Setting, Key, Output, Send, Want, numbers}
 use Rattle.sv_core.proofs.WaitingLemmas.{wants_below}
 use Rattle.sv_core.proofs.kept.Kept.add_wants.Goals.{then-to-self+in_ok-push, else-to-self}
 use Rattle.sv_core.proofs.kept.Kept.add_wants.Goals as goal

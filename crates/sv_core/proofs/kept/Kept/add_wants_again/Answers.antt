@@ -1,11 +1,5 @@
-use Rattle.std.proofs.Common.{◌≡◌, ℕ, ◌+◌, ◌<◌, List, [], ◌∷◌, ◌++◌, length, get_or, take, arith, sym, ap, ◌∙◌}
-use Rattle.std.proofs.lemmas.List.{append_assoc, take_more, take_all}
-use Rattle.sv_model.specs.declared.node.Setting.{Setting}
-use Rattle.sv_model.specs.declared.node.Parked.{Parked}
-use Rattle.sv_model.specs.declared.output.Output.{Output}
-use Rattle.sv_model.specs.NodeState.{Durable}
-use Rattle.sv_core.specs.Kept.{node_of}
-use Rattle.sv_core.specs.Time.{wants_of}
+use Rattle.sv_core.proofs.Prelude.{◌≡◌, ℕ, ◌+◌, ◌<◌, List, [], ◌∷◌, ◌++◌, length, get_or, take, arith, sym, ap, ◌∙◌, append_assoc, take_more, take_all, Setting}
+use Rattle.sv_core.proofs.Prelude.{Parked, Output, Durable, node_of, wants_of}
 use Rattle.sv_core.proofs.TimeLemmas.{wants_of_more}
 use Rattle.sv_core.proofs.kept.Kept.add_wants_again.Goals as goal
 

@@ -1,8 +1,5 @@
-use Rattle.std.proofs.Common.{length, arith, sym, ap, subst, ◌∙◌}
-use Rattle.sv_core.specs.declared.directory.Directory.{Directory}
-use Rattle.sv_core.specs.Places.{AreWithin, seen}
-use Rattle.sv_core.specs.Directory.{places_in}
-use Rattle.sv_core.specs.Census.{nobody, with_all, total}
+use Rattle.sv_core.proofs.Prelude.{length, arith, sym, ap, subst, ◌∙◌, Directory, AreWithin, seen, places_in, with_all, total}
+use Rattle.sv_core.specs.Census.{nobody}
 use Rattle.sv_core.proofs.DirectoryLemmas.{front_within, back_within, seen_append}
 use Rattle.sv_core.proofs.CensusLemmas.{all_append, total_seen}
 use Rattle.sv_core.proofs.TableLemmas.{entries_are}

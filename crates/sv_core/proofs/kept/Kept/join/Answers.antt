@@ -1,7 +1,5 @@
-use Rattle.std.proofs.Common.{◌+◌, [], ◌++◌, cond, ◌∷◌, arith, sym, ap, subst, ◌∙◌}
-use Rattle.sv_core.specs.Kept.{node_of}
+use Rattle.sv_core.proofs.Prelude.{◌+◌, [], ◌++◌, cond, ◌∷◌, arith, sym, ap, subst, ◌∙◌, node_of, keys_in, is_here, IsLine, wants_here}
 use Rattle.sv_core.specs.Decision.{with_want}
-use Rattle.sv_core.specs.Wants.{keys_in, is_here, IsLine, wants_here}
 use Rattle.sv_core.proofs.WantLemmas.{keys_joined, line_joined, where_push, where_fits}
 use Rattle.sv_core.proofs.kept.Kept.join.Goals as goal
 

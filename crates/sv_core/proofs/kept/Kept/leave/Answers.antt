@@ -1,7 +1,5 @@
-use Rattle.std.proofs.Common.{suc, take, drop, arith, sym, ap, subst, ◌∙◌}
+use Rattle.sv_core.proofs.Prelude.{suc, take, drop, arith, sym, ap, subst, ◌∙◌, node_of, keys_in, is_here, IsLine, wants_here, wants_where}
 use Rattle.std.specs.List as list
-use Rattle.sv_core.specs.Kept.{node_of}
-use Rattle.sv_core.specs.Wants.{keys_in, is_here, IsLine, wants_here, wants_where}
 use Rattle.sv_core.proofs.WantLemmas.{keys_left, line_rises, line_left, leaves_around, where_without}
 use Rattle.sv_core.proofs.kept.Kept.leave.Goals as goal
 

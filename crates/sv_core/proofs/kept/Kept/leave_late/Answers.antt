@@ -1,10 +1,6 @@
-use Rattle.std.proofs.Common.{◌≡◌, cond, false, rules, sym, ap, subst, ◌∙◌}
-use Rattle.std.specs.Prelude.{not}
-use Rattle.std.specs.List.{filter}
+use Rattle.sv_core.proofs.Prelude.{◌≡◌, cond, false, rules, sym, ap, subst, ◌∙◌, not, filter, is_late, node_of, Rise, keys_in, wants_in, is_here, IsLine}
+use Rattle.sv_core.proofs.Prelude.{wants_here, wants_where}
 use Rattle.std.proofs.lemmas.Fn.{filter_same}
-use Rattle.sv_model.specs.Time.{is_late}
-use Rattle.sv_core.specs.Kept.{node_of}
-use Rattle.sv_core.specs.Wants.{Rise, keys_in, wants_in, is_here, IsLine, wants_here, wants_where}
 use Rattle.sv_core.proofs.WantLemmas.{line_rises, line_passing, where_filter}
 use Rattle.sv_core.proofs.kept.Kept.leave_late.Goals as goal
 

@@ -1,4 +1,4 @@
-use Rattle.std.proofs.Common.{rules}
+use Rattle.sv_core.proofs.Prelude.{rules}
 use Rattle.sv_core.proofs.kept.Kept.on_grant.Goals as goal
 
 pub returns-then-lacks_room : goal.returns-then-lacks_room

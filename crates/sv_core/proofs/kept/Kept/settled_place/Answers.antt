@@ -1,7 +1,4 @@
-use Rattle.std.proofs.Common.{sym, ap, subst, ◌∙◌}
-use Rattle.std.specs.Prelude.{option_copied, slice_get}
-use Rattle.sv_core.specs.Kept.{node_of}
-use Rattle.sv_core.specs.Wants.{is_here, Rise, wants_in}
+use Rattle.sv_core.proofs.Prelude.{sym, ap, subst, ◌∙◌, option_copied, slice_get, node_of, is_here, Rise, wants_in}
 use Rattle.sv_core.proofs.WantLemmas.{line_rises, serves_want, serves_nobody}
 use Rattle.sv_core.proofs.kept.Kept.settled_place.Goals as goal
 

@@ -1,9 +1,5 @@
-use Rattle.std.proofs.Common.{◌++◌, ◌∷◌, [], length, map, sym, ap, subst, ◌∙◌}
-use Rattle.sv_core.specs.declared.directory.Directory.{Directory}
-use Rattle.sv_core.specs.Places.{AreWithin, seen}
-use Rattle.sv_core.specs.Directory.{places_in}
-use Rattle.sv_core.specs.Snapshot.{state_record, head_of}
-use Rattle.sv_core.specs.Kept.{node_of}
+use Rattle.sv_core.proofs.Prelude.{◌++◌, ◌∷◌, [], length, map, sym, ap, subst, ◌∙◌, Directory, AreWithin, seen, places_in, node_of, state_record}
+use Rattle.sv_core.specs.Snapshot.{head_of}
 use Rattle.sv_core.proofs.DirectoryLemmas.{front_within, back_within}
 use Rattle.sv_core.proofs.SnapshotLemmas.{states_joined}
 use Rattle.sv_core.proofs.TableLemmas.{entries_are}

@@ -1,6 +1,4 @@
-use Rattle.std.proofs.Common.{length, arith, ap, ◌∙◌}
-use Rattle.sv_core.specs.Table.{keys_of, durable_by}
-use Rattle.sv_core.specs.Wants.{wants_here}
+use Rattle.sv_core.proofs.Prelude.{length, arith, ap, ◌∙◌, keys_of, durable_by, wants_here}
 use Rattle.sv_core.proofs.kept.Kept.take_anew.Goals as goal
 
 pub settle_anew-requires : goal.settle_anew-requires

@@ -1,7 +1,5 @@
-use Rattle.std.proofs.Common.{sym, ap, subst, ◌∙◌}
-use Rattle.sv_core.specs.Kept.{node_of}
-use Rattle.sv_core.specs.Table.{keys_of, durable_by}
-use Rattle.sv_core.specs.Wants.{Rise, keys_in, wants_in, wants_where, wants_here, is_here, settles, settled_by}
+use Rattle.sv_core.proofs.Prelude.{sym, ap, subst, ◌∙◌, node_of, keys_of, durable_by, Rise, keys_in, wants_in, wants_where, wants_here, is_here, settles}
+use Rattle.sv_core.proofs.Prelude.{settled_by}
 use Rattle.sv_core.proofs.WantLemmas.{line_rises}
 use Rattle.sv_core.proofs.SettledLemmas.{settled_behind}
 use Rattle.sv_core.proofs.kept.Kept.take_plainly.Goals as goal

@@ -1,5 +1,4 @@
-use Rattle.std.proofs.Common.{sym, ap, subst, cond, Some, None, ◌∙◌, ◌<◌}
-use Rattle.sv_core.specs.Wants.{Rise, wants_in}
+use Rattle.sv_core.proofs.Prelude.{sym, ap, subst, cond, Some, None, ◌∙◌, ◌<◌, Rise, wants_in}
 use Rattle.sv_core.proofs.WantLemmas.{line_rises, wanted_none, wanted_at, stands_within}
 use Rattle.sv_core.proofs.kept.Kept.wanted_place.Goals as goal
 

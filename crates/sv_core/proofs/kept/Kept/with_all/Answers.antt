@@ -1,7 +1,4 @@
-use Rattle.std.proofs.Common.{length, refl, ap, ◌∙◌}
-use Rattle.sv_model.specs.NodeState.{last_number}
-use Rattle.sv_core.specs.Places.{seen}
-use Rattle.sv_core.specs.Census.{with_all}
+use Rattle.sv_core.proofs.Prelude.{length, refl, ap, ◌∙◌, last_number, seen, with_all}
 use Rattle.sv_core.proofs.PlaceLemmas.{place_within, take_all}
 use Rattle.sv_core.proofs.CensusLemmas.{counted_more, room_left}
 use Rattle.sv_core.proofs.kept.Kept.with_all.Goals as goal

@@ -1,10 +1,4 @@
-use Rattle.std.proofs.Common.{sym, ap, subst, inl, ◌∙◌}
-use Rattle.std.proofs.lemmas.Result.{IfOk-weaker}
-use Rattle.sv_core.specs.Kept.{node_of}
-use Rattle.sv_core.specs.Core.{IsWithin}
-use Rattle.sv_model.specs.Node.{decided}
-use Rattle.sv_model.specs.Journaled.{IsJournaled}
-use Rattle.sv_model.specs.Ranges.{IsRangedStep}
+use Rattle.sv_core.proofs.Prelude.{sym, ap, subst, inl, ◌∙◌, IfOk-weaker, node_of, IsWithin, decided, IsJournaled, IsRangedStep}
 use Rattle.sv_model.proofs.JournalLemmas.{journaled}
 use Rattle.sv_model.proofs.RangeLemmas.{ranged}
 use Rattle.sv_core.proofs.WithinLemmas.{within}

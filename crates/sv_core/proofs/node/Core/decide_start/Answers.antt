@@ -1,12 +1,5 @@
-use Rattle.std.proofs.Common.{sym, subst}
+use Rattle.sv_core.proofs.Prelude.{sym, subst, Node, Setting, IsJournaled, IsSetting, IsRanged, IsRangedStep, node_of, starts, decision_of}
 use Rattle.std.proofs.lemmas.Option.{IfSome_then}
-use Rattle.sv_model.specs.NodeState.{Node}
-use Rattle.sv_model.specs.declared.node.Setting.{Setting}
-use Rattle.sv_model.specs.Journaled.{IsJournaled}
-use Rattle.sv_model.specs.Ranges.{IsSetting, IsRanged, IsRangedStep}
-use Rattle.sv_core.specs.Kept.{node_of}
-use Rattle.sv_core.specs.Core.{starts}
-use Rattle.sv_core.specs.Decision.{decision_of}
 use Rattle.sv_core.proofs.RangeLemmas.{starts_journaled, starts_ranged}
 use Rattle.sv_core.proofs.node.Core.decide_start.Goals as goal
 

@@ -1,5 +1,4 @@
-use Rattle.std.proofs.Common.{None, refl}
-use Rattle.sv_core.specs.Directory.{places_in}
+use Rattle.sv_core.proofs.Prelude.{None, refl, places_in}
 use Rattle.sv_core.proofs.CoreLemmas.{knows_nothing}
 use Rattle.sv_core.proofs.node.Core.new.Goals as goal
 

@@ -1,8 +1,4 @@
-use Rattle.std.proofs.Common.{◌≡◌, ◌≤◌, [], sym, ap, subst, ◌∙◌}
-use Rattle.sv_model.specs.NodeState.{Durable, Node, last_number}
-use Rattle.sv_model.specs.Replay.{blank, replayed}
-use Rattle.sv_model.specs.Ranges.{IsRanged}
-use Rattle.sv_core.specs.Kept.{node_of}
+use Rattle.sv_core.proofs.Prelude.{◌≡◌, ◌≤◌, [], sym, ap, subst, ◌∙◌, Durable, Node, last_number, blank, replayed, IsRanged, node_of}
 use Rattle.sv_core.proofs.RangeLemmas.{ranged_recovered}
 use Rattle.sv_core.proofs.node.Core.recover.Goals as goal
 

@@ -1,4 +1,4 @@
-use Rattle.std.proofs.Common.{sym, ◌∙◌}
+use Rattle.sv_core.proofs.Prelude.{sym, ◌∙◌}
 use Rattle.sv_core.proofs.CoreLemmas.{tells}
 use Rattle.sv_core.proofs.node.Core.take.Goals as goal
 

@@ -1,4 +1,4 @@
-use Rattle.std.proofs.Common.{length, refl, sym, ◌∙◌}
+use Rattle.sv_core.proofs.Prelude.{length, refl, sym, ◌∙◌}
 use Rattle.sv_core.proofs.PlaceLemmas.{place_within, none_is, over_is, over_next}
 use Rattle.sv_core.proofs.table.Table.first_among.Goals as goal
 

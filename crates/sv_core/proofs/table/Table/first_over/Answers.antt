@@ -1,8 +1,4 @@
-use Rattle.std.proofs.Common.{length, sym, ap, subst, ◌∙◌}
-use Rattle.sv_model.specs.Time.{first_over}
-use Rattle.sv_core.specs.declared.directory.Directory.{Directory}
-use Rattle.sv_core.specs.Places.{AreWithin}
-use Rattle.sv_core.specs.Directory.{places_in}
+use Rattle.sv_core.proofs.Prelude.{length, sym, ap, subst, ◌∙◌, first_over, Directory, AreWithin, places_in}
 use Rattle.sv_core.proofs.DirectoryLemmas.{front_within, back_within, over_low, over_high, nobody_over}
 use Rattle.sv_core.proofs.TableLemmas.{entries_are}
 use Rattle.sv_core.proofs.table.Table.first_over.Goals as goal

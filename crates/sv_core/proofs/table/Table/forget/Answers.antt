@@ -1,9 +1,4 @@
-use Rattle.std.proofs.Common.{◌≡◌, ◌<◌, Some, refl, sym, ap, subst, ◌∙◌}
-use Rattle.std.specs.FinMap.{find}
-use Rattle.sv_model.specs.Keys.{key_cmp}
-use Rattle.sv_model.specs.declared.state.KeyState.TheVariants.{Gone}
-use Rattle.sv_core.specs.Places.{Rises, erase}
-use Rattle.sv_core.specs.Directory.{places_in}
+use Rattle.sv_core.proofs.Prelude.{◌≡◌, ◌<◌, Some, refl, sym, ap, subst, ◌∙◌, find, key_cmp, Gone, Rises, erase, places_in}
 use Rattle.sv_core.proofs.SentLemmas.{sent_rises}
 use Rattle.sv_core.proofs.PlaceLemmas.{found_within}
 use Rattle.sv_core.proofs.TableLemmas.{left_within, left_apart, left_spare, keys_left, sent_left, forgets_none}

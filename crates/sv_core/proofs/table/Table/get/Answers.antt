@@ -1,12 +1,5 @@
-use Rattle.std.proofs.Common.{◌≡◌, ◌<◌, Some, None, sym, ap, subst, ◌∙◌}
-use Rattle.std.specs.Prelude.{option_copied}
-use Rattle.std.specs.Option.{option_map}
-use Rattle.std.specs.FinMap.{find}
+use Rattle.sv_core.proofs.Prelude.{◌≡◌, ◌<◌, Some, None, sym, ap, subst, ◌∙◌, option_copied, option_map, find, key_cmp, Gone, state_at, places_in}
 use Rattle.std.proofs.lemmas.List.{get_or_default}
-use Rattle.sv_model.specs.Keys.{key_cmp}
-use Rattle.sv_model.specs.declared.state.KeyState.TheVariants.{Gone}
-use Rattle.sv_core.specs.Places.{state_at}
-use Rattle.sv_core.specs.Directory.{places_in}
 use Rattle.sv_core.proofs.PlaceLemmas.{found_within}
 use Rattle.sv_core.proofs.TableLemmas.{get_is}
 use Rattle.sv_core.proofs.table.Table.get.Goals as goal

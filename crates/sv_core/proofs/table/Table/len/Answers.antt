@@ -1,5 +1,4 @@
-use Rattle.std.proofs.Common.{◌∙◌}
-use Rattle.sv_core.specs.Directory.{places_in}
+use Rattle.sv_core.proofs.Prelude.{◌∙◌, places_in}
 use Rattle.sv_core.proofs.TableLemmas.{len_is}
 use Rattle.sv_core.proofs.table.Table.len.Goals as goal
 

@@ -1,4 +1,4 @@
-use Rattle.std.proofs.Common.{rules}
+use Rattle.sv_core.proofs.Prelude.{rules}
 use Rattle.sv_core.proofs.table.Table.reserve.Goals as goal
 
 pub returns-clause-room : goal.returns-clause-room

@@ -1,4 +1,4 @@
-use Rattle.std.proofs.Common.{rules}
+use Rattle.sv_core.proofs.Prelude.{rules}
 use Rattle.sv_core.proofs.table.Table.take_record.Goals as goal
 
 pub returns-in-Gone : goal.returns-in-Gone

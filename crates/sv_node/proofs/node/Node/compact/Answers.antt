@@ -1,12 +1,7 @@
 use Rattle.std.proofs.Common.{◌≡◌, ◌∙◌, List, OnOk, IsTrue, refl, sym, subst}
 use Rattle.std.specs.List.{All}
-use Rattle.sv_core.specs.Snapshot.{snapshot_of}
+use Rattle.sv_node.proofs.Prelude.{snapshot_of, Record, IsRecord, len_with, HasNoRoom, LeavesReplaced, setting_of, state_of, durable_of, Give}
 use Rattle.sv_journal.specs.declared.journal_fault.JournalFault.TheVariants.{Memory}
-use Rattle.sv_model.specs.declared.record.Record.{Record}
-use Rattle.sv_model.specs.Ranges.{IsRecord}
-use Rattle.sv_node.specs.Compaction.{len_with, HasNoRoom, LeavesReplaced}
-use Rattle.sv_node.specs.Node.{setting_of, state_of, durable_of}
-use Rattle.sv_node.specs.Records.{Give}
 use Rattle.sv_node.specs.declared.node.Node.{Node}
 use Rattle.sv_node.proofs.CompactionLemmas.{snapshot_ranged, snapshot_is, compaction_ends, stored_behind, compacting, nothing_done}
 use Rattle.sv_node.proofs.node.Node.compact.Goals as goal

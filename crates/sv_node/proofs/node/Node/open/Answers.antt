@@ -1,21 +1,9 @@
 use Rattle.std.proofs.Common.{◌≡◌, inr, ⊎_elim, ◌∙◌, ◌+◌, ◌++◌, ◌∷◌, [], ℕ, length, Bool, cond, List, Some, ap, sym, subst}
 use Rattle.sv_core.specs.Core.{node_at, durable_at, setting_of as core_setting}
-use Rattle.sv_journal.specs.Disk.{LeavesOnly, TellsOn}
-use Rattle.sv_model.specs.NodeState.{Durable, Node as State}
+use Rattle.sv_node.proofs.Prelude.{LeavesOnly, TellsOn, Durable, Node as State, IsSetting, IsRanged, IsRecord, Setting, Blank, Record, blank, boot_record}
+use Rattle.sv_node.proofs.Prelude.{replayed, AllFit, Holds, disk_a, disk_b, spelling, open_fault, IsTooLong, HasAdded, StartsWithoutLoss, restarted, Stores}
+use Rattle.sv_node.proofs.Prelude.{RestoresEither, Damaged, Device, Full}
 use Rattle.std.specs.List.{AllByRecursion}
-use Rattle.sv_model.specs.Ranges.{IsSetting, IsRanged, IsRecord}
-use Rattle.sv_model.specs.declared.node.Setting.{Setting}
-use Rattle.sv_model.specs.declared.node.Stage.TheVariants.{Blank}
-use Rattle.sv_model.specs.declared.record.Record.{Record}
-use Rattle.sv_model.specs.Replay.{blank, boot_record, replayed}
-use Rattle.sv_model.specs.Fitting.{AllFit}
-use Rattle.sv_journal.specs.Journal.{Holds, disk_a, disk_b}
-use Rattle.sv_record.specs.Record.{spelling}
-use Rattle.sv_node.specs.Fault.{open_fault}
-use Rattle.sv_node.specs.Node.{IsTooLong, HasAdded}
-use Rattle.sv_node.specs.Opened.{StartsWithoutLoss, restarted}
-use Rattle.sv_node.specs.Stops.{Stores, RestoresEither}
-use Rattle.sv_node.specs.declared.fault.OpenFault.TheVariants.{Damaged, Device, Full}
 use Rattle.sv_node.proofs.OpenLemmas.{was_damaged, was_bad, current_tells, both_tell, fits_too, gives_too, recovered, restarted_ranged, tell_on, at_state, refused_left, refused_unstarted, either_same}
 use Rattle.sv_node.proofs.OpeningMoments.{refused_moments, started_moments, read_then}
 use Rattle.sv_node.proofs.RecordLemmas.{spell_length}

@@ -2,17 +2,8 @@ use Rattle.std.proofs.Common.{◌∙◌, ◌++◌, List, Ok, Err, IsTrue, ap, ma
 use Rattle.std.specs.List.{flat_map}
 use Rattle.sv_core.specs.Core as core
 use Rattle.sv_journal.specs.declared.journal_fault.JournalFault.TheVariants as journal
-use Rattle.sv_model.specs.Engine.{EngineMeaning, heard_all}
-use Rattle.sv_model.specs.NodeState.{Node as State}
-use Rattle.sv_model.specs.Ranges.{IsSetting, IsRanged}
-use Rattle.sv_model.specs.declared.node.Setting.{Setting}
-use Rattle.sv_model.specs.declared.site.StepFault.{StepFault}
-use Rattle.sv_record.specs.Record.{spelling}
-use Rattle.sv_node.specs.Fault.{step_fault}
-use Rattle.sv_node.specs.Group.{Answer, entries_of, outcomes, events_held, ReplaysMore, IsGroup}
-use Rattle.sv_node.specs.Node.{setting_of, state_of}
-use Rattle.sv_node.specs.Records.{Replays}
-use Rattle.sv_node.specs.Stops.{Stores}
+use Rattle.sv_node.proofs.Prelude.{EngineMeaning, heard_all, Node as State, IsSetting, IsRanged, Setting, StepFault, spelling, step_fault, Answer, entries_of}
+use Rattle.sv_node.proofs.Prelude.{outcomes, events_held, ReplaysMore, IsGroup, setting_of, state_of, Replays, Stores}
 use Rattle.sv_node.specs.declared.node.Node.{Node}
 use Rattle.sv_node.proofs.GroupLemmas.{grouping, adding_all, untouched, device_alone, has_room, grown}
 use Rattle.sv_node.proofs.node.Node.step_all.Goals as goal

@@ -2,20 +2,8 @@ use Rattle.std.proofs.Common.{◌≡◌, ◌∙◌, Ok, Err, Option, IsTrue, ap,
 use Rattle.std.specs.Prelude.{option_copied, vec_items, IfSome}
 use Rattle.std.specs.Option.{option_to_list}
 use Rattle.sv_core.specs.Core as core
-use Rattle.sv_model.specs.Decision.{Decision}
-use Rattle.sv_model.specs.NodeState.{Durable, Node as State}
-use Rattle.sv_model.specs.Ranges.{IsSetting, IsRanged}
-use Rattle.sv_model.specs.Fitting.{Fits}
-use Rattle.sv_model.specs.Replay.{applied_if}
-use Rattle.sv_model.specs.Step.{View}
-use Rattle.sv_model.specs.declared.node.Setting.{Setting}
-use Rattle.sv_model.specs.declared.record.Record.{Record}
-use Rattle.sv_model.specs.declared.site.StepFault.{StepFault}
-use Rattle.sv_model.specs.declared.site.StepFault.TheVariants.{Memory}
-use Rattle.sv_node.specs.Fault.{step_fault}
-use Rattle.sv_node.specs.Node.{decided_at, setting_of, durable_of, IsTooLong, HasAdded}
-use Rattle.sv_node.specs.Records.{CanFollow}
-use Rattle.sv_node.specs.Stops.{Stores, LeavesAdded}
+use Rattle.sv_node.proofs.Prelude.{Decision, Durable, Node as State, IsSetting, IsRanged, Fits, applied_if, View, Setting, Record, StepFault, Memory}
+use Rattle.sv_node.proofs.Prelude.{step_fault, decided_at, setting_of, durable_of, IsTooLong, HasAdded, CanFollow, Stores, LeavesAdded}
 use Rattle.sv_node.specs.declared.node.Node.{Node}
 use Rattle.sv_node.proofs.Stepping.{Steps, Moments, stepping, quiet, refused, unchanged, still_node, whole}
 use Rattle.sv_node.proofs.node.NodeSite.step.Goals as goal

@@ -1,7 +1,5 @@
 use Rattle.std.proofs.Common.{◌≡◌, length, [], ◌∷◌, refl, sym, ap, ◌∙◌, arith}
-use Rattle.sv_model.specs.declared.output.Output.TheVariants.{Answer}
-use Rattle.sv_model.specs.Serving.{no_birth}
-use Rattle.sv_solo.specs.Table.{fated_at, born_behind, alone, node_of}
+use Rattle.sv_solo.proofs.Prelude.{Answer, no_birth, fated_at, born_behind, alone, node_of}
 use Rattle.sv_solo.proofs.TableLemmas.{few_born, length_fated}
 use Rattle.sv_solo.proofs.SoloLemmas.{refuses, answers, serves, stands_at, notes_all, made_of}
 use Rattle.sv_solo.proofs.solo.Solo.serve.Goals as goal

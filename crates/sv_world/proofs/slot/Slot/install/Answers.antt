@@ -1,7 +1,4 @@
-use Rattle.std.proofs.Common.{Some, sym, ap, ◌∙◌, subst, refl}
-use Rattle.sv_model.specs.declared.node.Stage.TheVariants.{Blank}
-use Rattle.sv_model.specs.Fitting.{AllFit}
-use Rattle.sv_model.specs.Replay.{blank}
+use Rattle.sv_world.proofs.Prelude.{Some, sym, ap, ◌∙◌, subst, refl, Blank, AllFit, blank}
 use Rattle.sv_world.proofs.InstallLemmas.{set_slot, set_engine}
 use Rattle.sv_world.proofs.slot.Slot.install.Goals as goal
 

@@ -1,4 +1,4 @@
-use Rattle.std.proofs.Common.{refl, rules}
+use Rattle.sv_world.proofs.Prelude.{refl, rules}
 use Rattle.sv_world.proofs.SlotLemmas.{left_slot, left_member}
 use Rattle.sv_world.proofs.slot.Slot.leave.Goals as goal
 

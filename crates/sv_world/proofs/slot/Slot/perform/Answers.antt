@@ -1,4 +1,4 @@
-use Rattle.std.proofs.Common.{rules}
+use Rattle.sv_world.proofs.Prelude.{rules}
 use Rattle.sv_world.proofs.slot.Slot.perform.Goals as goal
 
 pub returns-in-Silent-clause-done : goal.returns-in-Silent-clause-done

@@ -1,5 +1,4 @@
-use Rattle.std.proofs.Common.{Some, refl}
-use Rattle.std.proofs.lemmas.Result.{IfOk-weaker}
+use Rattle.sv_world.proofs.Prelude.{Some, refl, IfOk-weaker}
 use Rattle.sv_world.proofs.SlotLemmas.{setting_at, silent_done}
 use Rattle.sv_world.proofs.slot.Slot.silent_step.Goals as goal
 

@@ -1,7 +1,4 @@
-use Rattle.std.proofs.Common.{sym, ap, ◌∙◌, subst}
-use Rattle.sv_world.specs.CoreStep.{MayFollow}
-use Rattle.sv_world.specs.World.{Member}
-use Rattle.sv_world.specs.Slot.{member_of}
+use Rattle.sv_world.proofs.Prelude.{sym, ap, ◌∙◌, subst, MayFollow, Member, member_of}
 use Rattle.sv_world.proofs.slot.Slot.torn_step.Goals as goal
 
 pub leave-requires-clause-follows : goal.leave-requires-clause-follows

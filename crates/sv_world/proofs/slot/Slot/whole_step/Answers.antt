@@ -1,5 +1,4 @@
-use Rattle.std.proofs.Common.{Some, refl}
-use Rattle.std.proofs.lemmas.Result.{IfOk-weaker}
+use Rattle.sv_world.proofs.Prelude.{Some, refl, IfOk-weaker}
 use Rattle.sv_world.proofs.SlotLemmas.{setting_at, step_done}
 use Rattle.sv_world.proofs.slot.Slot.whole_step.Goals as goal
 

@@ -1,17 +1,8 @@
-use Rattle.std.proofs.Common.{◌≡◌, ℕ, Option, None, List, sym, ap, ◌∙◌, subst, rules}
-use Rattle.std.specs.Prelude.{IsSome, Result, Ok, Err, IfErr}
-use Rattle.sv_model.specs.Engine.{EngineMeaning}
-use Rattle.sv_model.specs.declared.packet.Packet.{Packet}
-use Rattle.sv_world.specs.declared.event.WorldEvent.{WorldEvent}
-use Rattle.sv_world.specs.declared.fault.WorldFault.{WorldFault}
+use Rattle.sv_world.proofs.Prelude.{◌≡◌, ℕ, Option, None, List, sym, ap, ◌∙◌, subst, rules, IsSome, Result, Ok, Err, IfErr, EngineMeaning, Packet, WorldEvent}
+use Rattle.sv_world.proofs.Prelude.{WorldFault, Line, Slot, fault_of, IsStill, IsRefused, refusal, action_of, state_by, cluster_by, world_of, cluster_of}
+use Rattle.sv_world.proofs.Prelude.{AreSet}
 use Rattle.sv_world.specs.declared.fault.WorldFault.TheVariants.{Memory}
-use Rattle.sv_world.specs.declared.line.Line.{Line}
-use Rattle.sv_world.specs.declared.slot.Slot.{Slot}
 use Rattle.sv_world.specs.declared.world.World.{World as Nodes}
-use Rattle.sv_world.specs.Faults.{fault_of}
-use Rattle.sv_world.specs.Happened.{IsStill, IsRefused, refusal}
-use Rattle.sv_world.specs.Action.{action_of}
-use Rattle.sv_world.specs.Worlds.{state_by, cluster_by, world_of, cluster_of, AreSet}
 use Rattle.sv_world.proofs.ActionLemmas.{goes, asks}
 use Rattle.sv_world.proofs.HappenedLemmas.{told_there, still_world, stays}
 use Rattle.sv_world.proofs.world.World.act.Goals as goal

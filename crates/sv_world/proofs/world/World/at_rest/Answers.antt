@@ -1,4 +1,4 @@
-use Rattle.std.proofs.Common.{[]}
+use Rattle.sv_world.proofs.Prelude.{[]}
 use Rattle.sv_world.proofs.BegunLemmas.{made_ran}
 use Rattle.sv_world.proofs.world.World.at_rest.Goals as goal
 

@@ -1,5 +1,4 @@
-use Rattle.std.proofs.Common.{◌≡◌, arith}
-use Rattle.sv_world.specs.Worlds.{size_of}
+use Rattle.sv_world.proofs.Prelude.{◌≡◌, arith, size_of}
 use Rattle.sv_world.proofs.BegunLemmas.{all_engines, are_of}
 use Rattle.sv_world.proofs.world.World.begin.Goals as goal
 

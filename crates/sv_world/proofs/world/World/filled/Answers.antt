@@ -1,6 +1,5 @@
-use Rattle.std.proofs.Common.{◌≡◌, List, length, sym, subst}
-use Rattle.sv_world.specs.declared.slot.Slot.{Slot}
-use Rattle.sv_world.specs.Making.{AreFilled}
+use Rattle.sv_world.proofs.Prelude.{◌≡◌, List, sym, subst, Slot, AreFilled}
+use Rattle.std.proofs.Common.{length}
 use Rattle.sv_world.proofs.BegunLemmas.{filled_world, started, back}
 use Rattle.sv_world.proofs.world.World.filled.Goals as goal
 

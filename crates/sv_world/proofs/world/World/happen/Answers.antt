@@ -1,4 +1,4 @@
-use Rattle.std.proofs.Common.{◌∙◌, ◌++◌, ◌∷◌, [], ap, refl}
+use Rattle.sv_world.proofs.Prelude.{◌∙◌, ◌++◌, ◌∷◌, [], ap, refl}
 use Rattle.sv_world.proofs.HappenedLemmas.{acted_world, acted_happened, acted_silent}
 use Rattle.sv_world.proofs.world.World.happen.Goals as goal
 

@@ -1,6 +1,6 @@
-use Rattle.std.proofs.Common.{◌<◌, ◌∷◌, [], ◌++◌, take, length, arith, refl, sym, ap, ◌∙◌}
+use Rattle.sv_world.proofs.Prelude.{◌<◌, ◌∷◌, [], ◌++◌, arith, refl, sym, ap, ◌∙◌, slice_get_read}
+use Rattle.std.proofs.Common.{take, length}
 use Rattle.std.proofs.lemmas.List.{take_more}
-use Rattle.std.proofs.lemmas.Option.{slice_get_read}
 use Rattle.sv_world.proofs.RanLemmas.{one_more, stopped_at}
 use Rattle.sv_world.proofs.world.World.happen_all.Goals as goal
 

@@ -1,6 +1,5 @@
 use Rattle.std.proofs.Common.{take}
-use Rattle.sv_world.specs.Worlds.{IsWorld}
-use Rattle.sv_world.specs.Happened.{HaveHappened}
+use Rattle.sv_world.proofs.Prelude.{IsWorld, HaveHappened}
 use Rattle.sv_world.proofs.world.World.happen_all.Given as goal
 
 abbrev pub invariant-loop-place : goal.invariant-loop-place

@@ -1,14 +1,10 @@
-use Rattle.std.proofs.Common.{◌≡◌, ◌<◌, ℕ, false, Option, None, List, length, arith, sym, ap, ◌∙◌, subst}
-use Rattle.std.specs.Prelude.{slice_get}
-use Rattle.sv_model.specs.declared.node.Setting.{Setting}
-use Rattle.sv_world.specs.declared.installing.InstallFault.{InstallFault}
-use Rattle.sv_world.specs.declared.slot.Slot.{Slot}
+use Rattle.sv_world.proofs.Prelude.{◌≡◌, ◌<◌, ℕ, false, Option, None, List, arith, sym, ap, ◌∙◌, subst, slice_get, Setting, InstallFault, Slot, AreInstalled}
+use Rattle.sv_world.proofs.Prelude.{fault_by, setting_by, world_of, members_by, IsSet, AreSet}
+use Rattle.std.proofs.Common.{length}
 use Rattle.sv_world.specs.declared.world.World.{World as Nodes}
-use Rattle.sv_world.specs.Planned.{AreInstalled, fault_by}
-use Rattle.sv_world.specs.Rules.{setting_by}
-use Rattle.sv_world.specs.Worlds.{world_of, members_by, IsSet, AreSet}
 use Rattle.sv_world.proofs.HappenedLemmas.{same_cluster}
-use Rattle.sv_world.proofs.InstallLemmas.{ready_by, there_by_fault, all_set, installed_ran, still_ran, ok_map, err_map, ok_or_err, err_all, ok_all, no_cause, own_cause}
+use Rattle.sv_world.proofs.InstallLemmas.{ready_by, there_by_fault, all_set, installed_ran, still_ran, ok_map, err_map, ok_or_err, err_all, ok_all, no_cause}
+use Rattle.sv_world.proofs.InstallLemmas.{own_cause}
 use Rattle.sv_world.proofs.world.World.install.Goals as goal
 
 -- the fault that was looked for is that of the world

@@ -1,6 +1,4 @@
-use Rattle.std.proofs.Common.{◌∷◌, [], refl, sym, ap, ◌∙◌, subst, add-one}
-use Rattle.sv_world.specs.declared.event.WorldEvent.TheVariants.{Restart}
-use Rattle.sv_world.specs.Happened.{HaveHappened, restarts}
+use Rattle.sv_world.proofs.Prelude.{◌∷◌, [], refl, sym, ap, ◌∙◌, subst, add-one, Restart, HaveHappened, restarts}
 use Rattle.sv_world.proofs.RanLemmas.{joined}
 use Rattle.sv_world.proofs.world.World.start_all.Goals as goal
 

@@ -1,6 +1,4 @@
-use Rattle.std.proofs.Common.{◌≡◌}
-use Rattle.sv_world.specs.Worlds.{IsWorld, heard_of}
-use Rattle.sv_world.specs.Happened.{HaveHappened, restarts}
+use Rattle.sv_world.proofs.Prelude.{◌≡◌, IsWorld, heard_of, HaveHappened, restarts}
 use Rattle.sv_world.proofs.world.World.start_all.Given as goal
 
 abbrev pub invariant-loop-node : goal.invariant-loop-node

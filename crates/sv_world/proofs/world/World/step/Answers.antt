@@ -1,5 +1,4 @@
-use Rattle.sv_model.specs.Container.{always}
-use Rattle.sv_world.specs.World.{steady}
+use Rattle.sv_world.proofs.Prelude.{always, steady}
 use Rattle.sv_world.proofs.RanLemmas.{step_some, some_ran, ran_headline, ran_steady, ran_fit, ran_progress}
 use Rattle.sv_world.proofs.world.World.step.Goals as goal
 

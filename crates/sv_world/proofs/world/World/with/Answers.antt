@@ -1,5 +1,5 @@
 use Rattle.std.proofs.Common.{length}
-use Rattle.sv_world.specs.Happened.{restarts}
+use Rattle.sv_world.proofs.Prelude.{restarts}
 use Rattle.sv_world.proofs.BegunLemmas.{made_ran, made_headline, made_fit}
 use Rattle.sv_world.proofs.NodeLemmas.{ok_then}
 use Rattle.sv_world.proofs.world.World.with.Goals as goal
