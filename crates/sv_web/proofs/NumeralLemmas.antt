@@ -1,5 +1,6 @@
 -- Texts that are numerals.
 use Rattle.std.proofs.Common.{◌≡◌, ℕ, ◌^◌, ◌<◌, List, [], ◌∷◌, length, drop, refl, arith, Some, None, Result, Ok, Err, ap, ◌∙◌, subst}
+use Rattle.std.proofs.lemmas.Bool.{and_from}
 use Rattle.std.specs.Prelude.{Bool, true, false, not, ◌&&◌, nat_lt, cond}
 use Rattle.std.specs.Char.{digit_value}
 use Rattle.std.specs.List.{list_all}
@@ -10,10 +11,6 @@ use Rattle.std.proofs.lemmas.Bool.Decides.{nat_tests}
 use Rattle.std.proofs.lemmas.Fmt.{IsAscii-from_digits}
 use Rattle.std.proofs.lemmas.Str.{IsUtf8-from_ascii}
 use Rattle.sv_web.specs.Numeral.{is_digit, is_numeral, starts_with_plus, number_in}
-
-both : (a b : Bool) → a ≡ true → b ≡ true → a && b ≡ true
-both true b x y = y
-both false b x y = absurd (cc)
 
 first_true : (a b : Bool) → a && b ≡ true → a ≡ true
 first_true true b x = refl
@@ -31,7 +28,7 @@ true_below m n h = grind (arith, nat_tests)
 
 digits_true : (bs : List ℕ) → AllDigits 10 bs → list_all is_digit bs ≡ true
 digits_true [] h = refl
-digits_true (c ∷ cs) h = both (is_digit c) (list_all is_digit cs) (below_true (digit_value c) 10 h.0) (digits_true cs h.1)
+digits_true (c ∷ cs) h = and_from (is_digit c) (list_all is_digit cs) (below_true (digit_value c) 10 h.0) (digits_true cs h.1)
 
 true_digits : (bs : List ℕ) → list_all is_digit bs ≡ true → AllDigits 10 bs
 true_digits [] h = tt
@@ -44,8 +41,8 @@ fits bs k = is_numeral bs && nat_lt (digits_value 10 bs) (2 ^ k)
 fits_true : (bs : List ℕ) (k : ℕ) → IsNumeral 10 bs → digits_value 10 bs < 2 ^ k → fits bs k ≡ true
 unfolding fits
 fits_true bs k n l =
-    both (is_numeral bs) (nat_lt (digits_value 10 bs) (2 ^ k))
-    (both (nat_lt 0 (length bs)) (list_all is_digit bs) (below_true 0 (length bs) n.0) (digits_true bs n.1))
+    and_from (is_numeral bs) (nat_lt (digits_value 10 bs) (2 ^ k))
+    (and_from (nat_lt 0 (length bs)) (list_all is_digit bs) (below_true 0 (length bs) n.0) (digits_true bs n.1))
     (below_true (digits_value 10 bs) (2 ^ k) l)
 
 true_fits : (bs : List ℕ) (k : ℕ) → fits bs k ≡ true → IsNumeral 10 bs × (digits_value 10 bs < 2 ^ k)

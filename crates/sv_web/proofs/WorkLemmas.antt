@@ -1,7 +1,7 @@
 -- Work goes on with what was lent, whatever it is put together of.
-use Rattle.std.proofs.Common.{◌≡◌, ℕ, Bool, true, false, cond, List, Option, Some, None, Result, Ok, Err, sym, subst}
+use Rattle.std.proofs.Common.{ℕ, Bool, true, false, cond, List, Option, Some, None, Result, Ok, Err}
 use Rattle.std.proofs.lemmas.Result.{IfOk-weaker}
-use Rattle.std.specs.Prelude.{IfOk, IfSome}
+use Rattle.std.specs.Prelude.{IfOk}
 use Rattle.sv_session.specs.Edit.{KeepsEdit}
 use Rattle.sv_session.specs.Calls.{Expected, after, change_id_result, create_result, interval_result, invalidate_result, set_result}
 use Rattle.sv_session.specs.declared.fault.SessionFault.{SessionFault}
@@ -19,10 +19,8 @@ use Rattle.sv_servlet.proofs.KeepsLemmas.{KeepsLent-refl, KeepsLent-trans, Keeps
 use Rattle.sv_web.specs.Cookies.{added_by, cookie_field, cookie_result, cookie_text, is_cookie, is_session_name}
 use Rattle.sv_web.specs.Header.{visible_value}
 use Rattle.sv_web.specs.Redirect.{location, redirect_result, see_other}
-use Rattle.sv_web.specs.Refusal.{Does, DoesBefore, before_after, next_after}
 use Rattle.sv_web.specs.SentCookie.{SentCookie}
 use Rattle.sv_web.specs.Work.{AddField, SetCookie, EditCall, Create, ChangeId, SetValue, SetInterval, Invalidate, FilterWork, ReplyCall, SetField, SetStatus, Write, Redirect, Work, Ends, Editing, Looking, Replying, answered, done, judged, left, on_edit, on_edit_call, on_reply, only_lent, reply_result, surrounding}
-use Rattle.sv_web.specs.declared.refusal.Refusal.{Refusal}
 
 -- what is lent is gone on with where the edit and the reply are
 lent_keeps : (l m : Lent) → KeepsEdit l.edit m.edit → KeepsReply l.reply m.reply → KeepsLent l m
@@ -112,10 +110,3 @@ pub surrounding_keeps : (work : FilterWork) → FilterKeeps (surrounding work)
 surrounding_keeps work = record { before = λ call l. judged_keeps (work.before call) l; after = λ call l. left_keeps (work.after call) l }
 
 -- ---- what is said of a refusal is said of the page that follows it
-
-pub does_with : (w : Work Next) (old new : Lent) (ended : Result Next Refusal) (next : Next) → Does w old new ended → Some next ≡ next_after ended → answer new next ≡ answered w old
-does_with w old new ended next does is = subst (λ (o : Option Next). IfSome o (λ n. answer new n ≡ answered w old)) (sym is) does
-
-pub does_before_with : (w : Work Before) (old new : Lent) (ended : Result Before Refusal) (before : Before) → DoesBefore w old new ended → Some before ≡ before_after ended
-    → verdict new before ≡ judged w old
-does_before_with w old new ended before does is = subst (λ (o : Option Before). IfSome o (λ b. verdict new b ≡ judged w old)) (sym is) does

@@ -3,8 +3,5 @@ use Rattle.std.proofs.Common.{◌≡◌, List, [], ◌∷◌, ◌++◌, sym, sub
 use Rattle.std.specs.List.{All}
 use Rattle.std.proofs.lemmas.List.Elements.{All-nil, All-push}
 
-pub all_behind : {X : Type 0} (P : X → Type 0) → (xs : List X) (x : X) → All P xs → P x → All P (xs ++ x ∷ [])
-all_behind P xs x all is = All-push P xs x all is
-
 pub all_of_none : {X : Type 0} (P : X → Type 0) → (xs : List X) → xs ≡ [] → All P xs
 all_of_none P xs none = subst (λ l. All P l) (sym none) (All-nil P)

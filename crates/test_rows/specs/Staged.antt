@@ -7,4 +7,5 @@ use Rattle.test_rows.specs.declared.scripted.Scripted.{Scripted}
 
 abbrev pub IsStaged : Stage Scripted Marking → Type 0
 IsStaged stage =
-    IsSound (table_of (λ s call l. scripted s.status s.says s.then call l) (λ s. s.phase) (λ f. marking f.before.now f.after.now f.then) (λ f. f.phase) stage)
+    IsSound (table_of (record { serves = λ s call l. scripted s.status s.says s.then call l; servlet_phase = λ s. s.phase })
+    (record { filtering = λ f. marking f.before.now f.after.now f.then; filter_phase = λ f. f.phase }) stage)

@@ -132,7 +132,7 @@ fn run_path<S: Servlet, F: Filter>(
     stage: &mut Stage<S, F>,
     path: &str,
 ) -> Result<Ended, AllocError>
-    requires { IsSound (table_of S.serves S.servlet_phase F.filtering F.filter_phase stage.old) }
+    requires { IsSound (table_of S.Servlet F.Filter stage.old) }
 {
     let method = Method::GET;
     let attributes = RequestAttributes::new(alloc);
@@ -158,7 +158,7 @@ fn dispatched<S: Servlet, F: Filter>(
     stage: Stage<S, F>,
     path: &str,
 ) -> Result<String, RowFault>
-    requires { IsSound (table_of S.serves S.servlet_phase F.filtering F.filter_phase stage) }
+    requires { IsSound (table_of S.Servlet F.Filter stage) }
 {
     let mut stage = stage;
     let ended = run_path(alloc, &mut stage, path)?;

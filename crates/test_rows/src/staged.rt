@@ -14,7 +14,7 @@ use sv_session::SessionEdit;
 
 /// A stage with no objects.
 pub fn empty_stage<S: Servlet, F: Filter>(alloc: Global) -> Stage<S, F>
-    ensures { IsSound (table_of S.serves S.servlet_phase F.filtering F.filter_phase result) }
+    ensures { IsSound (table_of S.Servlet F.Filter result) }
 {
     let fresh = (Key { home: 0, serial: 1 }, Secret([0; 16]));
     Stage {
@@ -35,9 +35,9 @@ pub fn add_servlet<S: Servlet, F: Filter>(
     path: &str,
     servlet: S,
 ) -> Result<(), RowFault>
-    requires sound { IsSound (table_of S.serves S.servlet_phase F.filtering F.filter_phase stage.old) }
+    requires sound { IsSound (table_of S.Servlet F.Filter stage.old) }
     requires ready { S.servlet_phase servlet ≡ Ready }
-    ensures { IsSound (table_of S.serves S.servlet_phase F.filtering F.filter_phase stage.new) }
+    ensures { IsSound (table_of S.Servlet F.Filter stage.new) }
 {
     let pattern = Pattern::read(alloc, path)?;
     let name = Text::from_str(alloc, path)?;
@@ -57,9 +57,9 @@ pub fn add_filter<S: Servlet, F: Filter>(
     dispatchers: Dispatchers,
     filter: F,
 ) -> Result<(), RowFault>
-    requires sound { IsSound (table_of S.serves S.servlet_phase F.filtering F.filter_phase stage.old) }
+    requires sound { IsSound (table_of S.Servlet F.Filter stage.old) }
     requires ready { F.filter_phase filter ≡ Ready }
-    ensures { IsSound (table_of S.serves S.servlet_phase F.filtering F.filter_phase stage.new) }
+    ensures { IsSound (table_of S.Servlet F.Filter stage.new) }
 {
     let target = FilterTarget::Pattern(Pattern::read(alloc, "/*")?);
     let at = stage.filters.len();
@@ -83,8 +83,8 @@ pub fn add_page<S: Servlet, F: Filter>(
     page_for: PageFor,
     path: &str,
 ) -> Result<(), RowFault>
-    requires { IsSound (table_of S.serves S.servlet_phase F.filtering F.filter_phase stage.old) }
-    ensures { IsSound (table_of S.serves S.servlet_phase F.filtering F.filter_phase stage.new) }
+    requires { IsSound (table_of S.Servlet F.Filter stage.old) }
+    ensures { IsSound (table_of S.Servlet F.Filter stage.new) }
 {
     let path = Text::from_str(alloc, path)?;
     stage.pages.push(ErrorPage { page_for, path })?;

@@ -109,7 +109,7 @@ fn stage<S: Servlet, F: Filter>(
 ) -> Result<Stage<S, F>, Unshown>
     requires servlet { S.servlet_phase servlet ≡ Ready }
     requires filter { F.filter_phase filter ≡ Ready }
-    ensures { IfOk result (λ s. IsSound (table_of S.serves S.servlet_phase F.filtering F.filter_phase s)) }
+    ensures { IfOk result (λ s. IsSound (table_of S.Servlet F.Filter s)) }
 {
     let servlets = hosted(alloc, "includer", servlet)?;
     let filters = hosted(alloc, "stamp-b", filter)?;
@@ -166,8 +166,8 @@ fn dispatch<S: Servlet, F: Filter>(
     stage: &mut Stage<S, F>,
     params: &[Param],
 ) -> Result<Ended, AllocError>
-    requires { IsSound (table_of S.serves S.servlet_phase F.filtering F.filter_phase stage.old) }
-    ensures { IsSound (table_of S.serves S.servlet_phase F.filtering F.filter_phase stage.new) }
+    requires { IsSound (table_of S.Servlet F.Filter stage.old) }
+    ensures { IsSound (table_of S.Servlet F.Filter stage.new) }
 {
     let (edit, reply) = lent(alloc);
     stage.edit = edit;
@@ -193,7 +193,7 @@ fn dispatch_again<S: Servlet, F: Filter>(
     refusals: &mut Refusals,
     stage: &mut Stage<S, F>,
 ) -> Result<Ended, AllocError>
-    requires { IsSound (table_of S.serves S.servlet_phase F.filtering F.filter_phase stage.old) }
+    requires { IsSound (table_of S.Servlet F.Filter stage.old) }
 {
     let params = params(alloc)?;
     match dispatch(alloc, stage, params.as_slice()) {
@@ -212,7 +212,7 @@ fn reply_of<S: Servlet, F: Filter>(stage: Stage<S, F>) -> Reply {
 
 /// A request on a stage: how it ended, and the reply.
 fn tried<S: Servlet, F: Filter>(alloc: Global, refusals: &mut Refusals, stage: Stage<S, F>) -> Shown
-    requires { IsSound (table_of S.serves S.servlet_phase F.filtering F.filter_phase stage) }
+    requires { IsSound (table_of S.Servlet F.Filter stage) }
 {
     let mut stage = stage;
     match dispatch_again(alloc, refusals, &mut stage) {
