@@ -11,7 +11,7 @@ use sv_model::Engine;
 use sv_world::{Rules, World};
 
 /// One more engine after those that are there.
-#[tactic(auto, using(crate::proofs::EngineLemmas::all_behind))]
+#[tactic(auto, using(crate::proofs::EngineLemmas::all_pushed))]
 fn with_one<E: Engine + Drop>(engines: Vec<E>, engine: E) -> Result<Vec<E>, RowFault>
     requires all { All (λ e. E.valid e) engines.items }
     requires valid { E.valid engine }
