@@ -1,7 +1,7 @@
 //! What an application answers to a request: the dispatch, and the response that comes of it.
 
 ghost use Rattle.std.specs.Prelude.{◌≡◌, IfOk, IsTrue, None, Some, false, is_some, option_map, true};
-ghost use Rattle.sv_dispatch.specs.Pages.{ran, served as served_by_table};
+ghost use Rattle.sv_dispatch.specs.Pages.{joined_path, ran, served as served_by_table};
 ghost use Rattle.sv_dispatch.specs.MappedPath.{mapped_path_of};
 ghost use Rattle.sv_dispatch.specs.Stages.{lent_of};
 ghost use Rattle.sv_container.specs.Application.{IsSoundApp, app_of};
@@ -21,7 +21,7 @@ use crate::remember::remember_chosen;
 use crate::set_cookie::{announced, with_cookie};
 use std::alloc::{AllocError, Global};
 use std::mem;
-use sv_dispatch::{Ended, run};
+use sv_dispatch::{Ended, run_at};
 use sv_mapping::Mappings;
 use sv_model::{
     EngineFault, Fate, Key, Outcome, Request, Response, Secret, Sequence, Session, is_head,
@@ -31,14 +31,20 @@ use sv_servlet::{Call, Filter, Replied, Reply, RequestAttributes, Servlet};
 use sv_session::{Edited, SessionEdit};
 use sv_target::session_cookie;
 
-/// The servlet path and the path info of a path within a context; without a servlet, as the default one sees them.
-fn shown<'a>(patterns: &Mappings, path: &'a str) -> (&'a str, Option<&'a str>)
-    ensures servlet_path { result.0.now ≡ (mapped_path_of patterns.now path.now).servlet_path }
-    ensures path_info { option_map (λ t. t.now) result.1 ≡ (mapped_path_of patterns.now path.now).path_info }
+/// The servlet of a path within a context, with the servlet path and the path info; without a servlet, as the default one sees them.
+fn shown<'a>(patterns: &Mappings, path: &'a str) -> (Option<usize>, &'a str, Option<&'a str>)
+    ensures servlet { result.0 ≡ (mapped_path_of patterns.now path.now).servlet }
+    ensures servlet_path { result.1.now ≡ (mapped_path_of patterns.now path.now).servlet_path }
+    ensures path_info { option_map (λ t. t.now) result.2 ≡ (mapped_path_of patterns.now path.now).path_info }
+    ensures whole { joined_path result.1.now (option_map (λ t. t.now) result.2) ≡ path.now }
 {
     match patterns.find(path) {
-        Some(found) => (found.servlet_path(path), found.path_info(path)),
-        None => (path, None),
+        Some(found) => (
+            Some(found.servlet),
+            found.servlet_path(path),
+            found.path_info(path),
+        ),
+        None => (None, path, None),
     }
 }
 
@@ -95,7 +101,7 @@ impl<S: Servlet, F: Filter> Application<S, F> {
         ensures ran { IfOk result (λ ended. ran ended (lent_of self.new.stage) ≡ served_by_table (app_of S.Servlet F.Filter self.old).table
             (asked (app_of S.Servlet F.Filter self.old) request.now path.now) (lent_of self.old.stage)) }
     {
-        let (servlet_path, path_info) = shown(&self.stage.patterns, path);
+        let (servlet, servlet_path, path_info) = shown(&self.stage.patterns, path);
         let attributes = RequestAttributes::new(alloc);
         let call = Call {
             method: &request.method,
@@ -112,7 +118,7 @@ impl<S: Servlet, F: Filter> Application<S, F> {
             attributes: &attributes,
             resume: 0,
         };
-        run(alloc, &mut self.stage, call)
+        run_at(alloc, &mut self.stage, call, path, servlet)
     }
 
     /// The response to a request, and the edit after it; edits stand, whatever follows.

@@ -43,10 +43,10 @@ afters_last fs [] k call l = refl
 afters_last fs (j ∷ ks) k call l = ap (after_at fs j call) (afters_last fs ks k call l)
 
 -- the last filter was called
-pub afters_pop : (gs fs : List (Row Filters)) (js ks : List ℕ) (k : ℕ) (call : Asked) (l m total : Lent) →
-    gs ≡ fs → js ≡ ks ++ k ∷ [] → m ≡ after_at gs k call l → afters fs js call l ≡ total → afters fs ks call m ≡ total
-afters_pop gs fs js ks k call l m total g j e t =
-    ap (afters fs ks call) (e ∙ ap (λ (us : List (Row Filters)). after_at us k call l) g) ∙ (sym (afters_last fs ks k call l) ∙ (ap (λ ns. afters fs ns call l) (sym j) ∙ t))
+pub afters_pop : (gs fs : List (Row Filters)) (js ks : List ℕ) (k : ℕ) (seen call : Asked) (l m total : Lent) →
+    gs ≡ fs → js ≡ ks ++ k ∷ [] → seen ≡ call → m ≡ after_at gs k seen l → afters fs js call l ≡ total → afters fs ks call m ≡ total
+afters_pop gs fs js ks k seen call l m total g j s e t =
+    ap (afters fs ks call) (e ∙ ap (λ (us : List (Row Filters)). after_at us k seen l) g ∙ ap (λ (x : Asked). after_at fs k x l) s) ∙ (sym (afters_last fs ks k call l) ∙ (ap (λ ns. afters fs ns call l) (sym j) ∙ t))
 
 -- the filters are of the same rows, and the servlets stay
 pub filters_kept : (t u : Table) (fs : List (Row Filters)) → t ≡ u → fs ≡ t.filters → (record t { filters = fs }) ≡ u

@@ -6,6 +6,7 @@ pub mod TurnLemmas
 pub mod RunLemmas
 pub mod StepLemmas
 pub mod OpenLemmas
+pub mod FirstLemmas
 pub mod MappedPathLemmas
 pub mod PageLemmas
 pub mod SoundLemmas

@@ -19,10 +19,6 @@ closed_kept fs ps call (Failed code text) l m k e left = ap (outcome (Failed cod
 closed_kept fs ps call (Faulted name) l m k e left = ap (outcome (Faulted name) left) e
 closed_kept fs ps call Abandoned l m k e left = absurd (k refl)
 
-pub closed_seen : (fs : List (Row Filters)) (ps : List ℕ) (seen call : Asked) (ended : Ending) (l m : Lent) → ended ≢ Abandoned → m ≡ afters fs ps seen l → seen ≡ call →
-    (left : ℕ) → outcome ended left m ≡ closed fs ps call (outcome ended left l)
-closed_seen fs ps seen call ended l m k e s = closed_kept fs ps call ended l m k (e ∙ ap (λ (x : Asked). afters fs ps x l) s)
-
 abbrev pub began : Table → Visit → Lent → Begun
 began t v l = befores t.filters (chain_of t v) v.view l
 
@@ -34,41 +30,39 @@ performed_by t e v s left l m ps b h =
     ap (λ (g : Begun). closed t.filters g.passed (call_of g.view 0) (begun_by (dispatched t e) t.servlets (showing g.view v) left g.lent g.before)) h
 
 -- a dispatch from its servlet on, or its end without one
-abbrev continued : Table → ℕ → Visit → ℕ → Lent → Result ℕ Ending → Outcome
-continued t e v left m (Ok k) = serving (dispatched t e) t.servlets left k v.view 0 left m
-continued t e v left m (Err ended) = outcome ended left m
+abbrev continued : Table → ℕ → Sight → ℕ → Lent → Result ℕ Ending → Outcome
+continued t e s left m (Ok k) = serving (dispatched t e) t.servlets left k s 0 left m
+continued t e s left m (Err ended) = outcome ended left m
 
-placed_on : (t : Table) (e : ℕ) (v : Visit) (left : ℕ) (m : Lent) (found : Option ℕ) → placed (dispatched t e) t.servlets v.view left m found ≡ continued t e v left m (found_or_sent v.view found)
-placed_on t e v left m None = refl
-placed_on t e v left m (Some k) = refl
+placed_on : (t : Table) (e : ℕ) (s : Sight) (left : ℕ) (m : Lent) (found : Option ℕ) → placed (dispatched t e) t.servlets s left m found ≡ continued t e s left m (found_or_sent s found)
+placed_on t e s left m None = refl
+placed_on t e s left m (Some k) = refl
 
-begun_on : (t : Table) (e : ℕ) (v : Visit) (left : ℕ) (m : Lent) (b : Before) → begun_by (dispatched t e) t.servlets v left m b ≡ continued t e v left m (to_serve t.servlets v b)
-begun_on t e v left m Pass = placed_on t e v left m (ready_at (labels_of_rows t.servlets) v.servlet)
-begun_on t e v left m (PassWith name value) = placed_on t e v left m (ready_at (labels_of_rows t.servlets) v.servlet)
+begun_on : (t : Table) (e : ℕ) (v : Visit) (left : ℕ) (m : Lent) (b : Before) → begun_by (dispatched t e) t.servlets v left m b ≡ continued t e v.view left m (to_serve t.servlets v.view v.servlet b)
+begun_on t e v left m Pass = placed_on t e v.view left m (ready_at (labels_of_rows t.servlets) v.servlet)
+begun_on t e v left m (PassWith name value) = placed_on t e v.view left m (ready_at (labels_of_rows t.servlets) v.servlet)
 begun_on t e v left m Stop = refl
 begun_on t e v left m (SendError code text) = refl
 begun_on t e v left m (Fault name) = refl
 
 -- what follows the filters
 opens_on : (t u : Table) (e : ℕ) (v : Visit) (s : Sight) (left : ℕ) (l m : Lent) (ps : List ℕ) (b : Before) (r : Result ℕ Ending) → begun ps s b m ≡ began t v l → u ≡ t
-    → r ≡ to_serve u.servlets (showing s v) b → closed t.filters ps (call_of s 0) (continued t e (showing s v) left m r) ≡ performed t (dispatched t e) v left l
+    → r ≡ to_serve u.servlets s v.servlet b → closed t.filters ps (call_of s 0) (continued t e s left m r) ≡ performed t (dispatched t e) v left l
 opens_on t u e v s left l m ps b r h w q =
     ap (closed t.filters ps (call_of s 0))
-    (ap (continued t e (showing s v) left m) (q ∙ ap (λ (x : Table). to_serve x.servlets (showing s v) b) w) ∙ sym (begun_on t e (showing s v) left m b)) ∙ performed_by t e v s left l m ps b h
+    (ap (continued t e s left m) (q ∙ ap (λ (x : Table). to_serve x.servlets s v.servlet b) w) ∙ sym (begun_on t e (showing s v) left m b)) ∙ performed_by t e v s left l m ps b h
 
--- there is a servlet; `n` is the dispatch that shows what its filters have set
-pub opens_at : (t u : Table) (e : ℕ) (v n : Visit) (left : ℕ) (l m : Lent) (b : Before) (o : Open) → begun o.passed.items n.view b m ≡ began t v l → n ≡ showing n.view v
-    → o.view ≡ n.view → o.resume ≡ 0 → u ≡ t → Ok o.servlet ≡ to_serve u.servlets n b → opened t e o left m ≡ performed t (dispatched t e) v left l
+-- there is a servlet
+pub opens_at : (t u : Table) (e : ℕ) (v : Visit) (left : ℕ) (l m : Lent) (b : Before) (o : Open) → begun o.passed.items o.view b m ≡ began t v l → o.resume ≡ 0 → u ≡ t
+    → Ok o.servlet ≡ to_serve u.servlets o.view v.servlet b → opened t e o left m ≡ performed t (dispatched t e) v left l
 unfolding opened
-opens_at t u e v n left l m b o h shows w r x q =
-    rw (w, r) (opens_on t u e v n.view left l m o.passed.items b (Ok o.servlet) h x (q ∙ ap (λ (y : Visit). to_serve u.servlets y b) shows))
+opens_at t u e v left l m b o h r w q = rw r (opens_on t u e v o.view left l m o.passed.items b (Ok o.servlet) h w q)
 
 -- or there is none to be called
-pub opens_not : (t u : Table) (e : ℕ) (v n : Visit) (left : ℕ) (l m : Lent) (ps : List ℕ) (b : Before) (ended : Ending) → begun ps n.view b m ≡ began t v l → n ≡ showing n.view v
-    → u ≡ t → Err ended ≡ to_serve u.servlets n b → closed u.filters ps (call_of n.view 0) (outcome ended left m) ≡ performed t (dispatched t e) v left l
-opens_not t u e v n left l m ps b ended h shows w q =
-    ap (λ (x : Table). closed x.filters ps (call_of n.view 0) (outcome ended left m)) w
-    ∙ opens_on t u e v n.view left l m ps b (Err ended) h w (q ∙ ap (λ (y : Visit). to_serve u.servlets y b) shows)
+pub opens_not : (t u : Table) (e : ℕ) (v : Visit) (s : Sight) (left : ℕ) (l m : Lent) (ps : List ℕ) (b : Before) (ended : Ending) → begun ps s b m ≡ began t v l → u ≡ t
+    → Err ended ≡ to_serve u.servlets s v.servlet b → closed u.filters ps (call_of s 0) (outcome ended left m) ≡ performed t (dispatched t e) v left l
+opens_not t u e v s left l m ps b ended h w q =
+    ap (λ (x : Table). closed x.filters ps (call_of s 0) (outcome ended left m)) w ∙ opens_on t u e v s left l m ps b (Err ended) h w q
 
 -- the path of a dispatch was read, or refused
 pub enters : (t : Table) (e : ℕ) (a : Ask) (v : Visit) (left : ℕ) (l : Lent) → Some v ≡ visit_of t a → performed t (dispatched t e) v left l ≡ dispatched t (suc e) a left l
@@ -100,20 +94,20 @@ passed_ready fs gs s z ks ps l m b e a h =
 pub chain_ready : (t : Table) (ks : List ℕ) (v : Visit) → IsSound t → ks ≡ chain_of t v → All (IsReadyAt t.filters) ks
 chain_ready t ks v s e = subst (All (IsReadyAt t.filters)) (sym e) (chain_all (IsReadyAt t.filters) t.chains v.path v.servlet v.dispatcher s.filters)
 
-found_ready : (t : Table) (v : Visit) (found : Option ℕ) → IsSound t → ready_at (labels_of_rows t.servlets) v.servlet ≡ found → IfOk (found_or_sent v.view found) (IsReadyAt t.servlets)
-found_ready t v None s h = tt
-found_ready t v (Some k) s h = servlet_ready t.servlets v.servlet k s.servlets h
+found_ready : (t : Table) (s : Sight) (servlet found : Option ℕ) → IsSound t → ready_at (labels_of_rows t.servlets) servlet ≡ found → IfOk (found_or_sent s found) (IsReadyAt t.servlets)
+found_ready t s servlet None sound h = tt
+found_ready t s servlet (Some k) sound h = servlet_ready t.servlets servlet k sound.servlets h
 
-to_serve_ready : (t : Table) (v : Visit) (b : Before) → IsSound t → IfOk (to_serve t.servlets v b) (IsReadyAt t.servlets)
-to_serve_ready t v Pass s = found_ready t v (ready_at (labels_of_rows t.servlets) v.servlet) s refl
-to_serve_ready t v (PassWith name value) s = found_ready t v (ready_at (labels_of_rows t.servlets) v.servlet) s refl
-to_serve_ready t v Stop s = tt
-to_serve_ready t v (SendError code text) s = tt
-to_serve_ready t v (Fault name) s = tt
+to_serve_ready : (t : Table) (s : Sight) (servlet : Option ℕ) (b : Before) → IsSound t → IfOk (to_serve t.servlets s servlet b) (IsReadyAt t.servlets)
+to_serve_ready t s servlet Pass sound = found_ready t s servlet (ready_at (labels_of_rows t.servlets) servlet) sound refl
+to_serve_ready t s servlet (PassWith name value) sound = found_ready t s servlet (ready_at (labels_of_rows t.servlets) servlet) sound refl
+to_serve_ready t s servlet Stop sound = tt
+to_serve_ready t s servlet (SendError code text) sound = tt
+to_serve_ready t s servlet (Fault name) sound = tt
 
 -- a sound table's servlet is ready, and so are the filters that passed
-pub opens : (t u : Table) (v : Visit) (b : Before) (o : Open) → IsSound t → u ≡ t → Ok o.servlet ≡ to_serve u.servlets v b → All (IsReadyAt u.filters) o.passed.items → IsOpen t o
-opens t u v b o s w q a = record {
-  servlet = subst (λ (r : Result ℕ Ending). IfOk r (IsReadyAt t.servlets)) (sym (q ∙ ap (λ (x : Table). to_serve x.servlets v b) w)) (to_serve_ready t v b s);
+pub opens : (t u : Table) (s : Sight) (servlet : Option ℕ) (b : Before) (o : Open) → IsSound t → u ≡ t → Ok o.servlet ≡ to_serve u.servlets s servlet b → All (IsReadyAt u.filters) o.passed.items → IsOpen t o
+opens t u s servlet b o sound w q a = record {
+  servlet = subst (λ (r : Result ℕ Ending). IfOk r (IsReadyAt t.servlets)) (sym (q ∙ ap (λ (x : Table). to_serve x.servlets s servlet b) w)) (to_serve_ready t s servlet b sound);
   passed = subst (λ (x : Table). All (IsReadyAt x.filters) o.passed.items) w a;
 }

@@ -22,7 +22,7 @@ unfolding opened serving closed
 serve_none t e o zero l h = refl
 serve_none t e o (suc n) l h = absurd (omega arith)
 
-serve_one : (t : Table) (e : ℕ) (o : Open) (left n : ℕ) (l m : Lent) (next : Next) (seen : Asked) → left ≡ n + 1 →
+pub serve_one : (t : Table) (e : ℕ) (o : Open) (left n : ℕ) (l m : Lent) (next : Next) (seen : Asked) → left ≡ n + 1 →
     answer m next ≡ served t.servlets o.servlet seen l → seen ≡ call_of o.view o.resume → followed t e o n m next ≡ opened t e o left l
 unfolding opened serving
 serve_one t e o left n l m next seen h a v =

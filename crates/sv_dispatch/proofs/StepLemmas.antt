@@ -78,12 +78,12 @@ pops_running (Ok mode) t fs gs f m p h held small = record {
 pops_running (Err x) t fs gs f m p h held small = tt
 
 -- at the start the stack is empty
-pub starts : (t : Table) (fs : List Frame) (a : Ask) (left : ℕ) (l : Lent) → fs ≡ [] → whole t 16 fs (Enter a) left l ≡ dispatched t 16 a left l
+pub starts : (t : Table) (fs : List Frame) (m : Mode) (left : ℕ) (l : Lent) → fs ≡ [] → whole t 16 fs m left l ≡ current t 16 m left l
 unfolding whole plugged
-starts t fs a left l e = rw e
+starts t fs m left l e = rw e
 
-pub starts_running : (t : Table) (fs : List Frame) (a : Ask) → fs ≡ [] → IsRunning t fs (Enter a)
-starts_running t fs a e = rw e (record { mode = tt; frames = All-nil (λ (f : Frame). IsOpen t f.held); room = omega arith })
+pub starts_running : (t : Table) (fs : List Frame) (m : Mode) → fs ≡ [] → IsModeOf t m → need m ≤ 1 → IsRunning t fs m
+starts_running t fs m e h n = rw e (record { mode = h; frames = All-nil (λ (f : Frame). IsOpen t f.held); room = omega (arith, n) })
 
 -- at the end too
 pub ends : (t : Table) (fs : List Frame) (m : Mode) (ended : Ending) (left : ℕ) (l : Lent) (o : Outcome) → fs ≡ [] → m ≡ Leave ended → whole t 16 fs m left l ≡ o → outcome ended left l ≡ o

@@ -165,12 +165,12 @@ found_or_sent s None = Err (sent s 404 [])
 found_or_sent s (Some k) = Ok k
 
 -- the servlet that is to be called after the filters, or how the dispatch ends without it
-abbrev pub to_serve : List (Row Serves) → Visit → Before → Result ℕ Ending
-to_serve rs v Pass = found_or_sent v.view (ready_at (labels_of_rows rs) v.servlet)
-to_serve rs v (PassWith name value) = found_or_sent v.view (ready_at (labels_of_rows rs) v.servlet)
-to_serve rs v Stop = Err Finished
-to_serve rs v (RefuseBy code text) = Err (sent v.view code text)
-to_serve rs v (RefuseFor name) = Err (Faulted name)
+abbrev pub to_serve : List (Row Serves) → Sight → Option ℕ → Before → Result ℕ Ending
+to_serve rs s servlet Pass = found_or_sent s (ready_at (labels_of_rows rs) servlet)
+to_serve rs s servlet (PassWith name value) = found_or_sent s (ready_at (labels_of_rows rs) servlet)
+to_serve rs s servlet Stop = Err Finished
+to_serve rs s servlet (RefuseBy code text) = Err (sent s code text)
+to_serve rs s servlet (RefuseFor name) = Err (Faulted name)
 
 -- ---- the dispatch
 

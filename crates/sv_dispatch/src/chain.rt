@@ -1,18 +1,19 @@
 //! The filters round a servlet.
 
 ghost use Rattle.std.specs.Prelude.{◌≡◌, IfOk, All, OnOk};
-ghost use Rattle.sv_dispatch.specs.Dispatching.{begun, befores, afters, chain_of, passes, showing, shown_behind};
+ghost use Rattle.sv_dispatch.specs.Dispatching.{begun, befores, afters, chain_of, passes, shown_behind, visit};
 ghost use Rattle.sv_dispatch.specs.Rows.{IsReadyAt, labels_of_rows, ready_at};
+ghost use Rattle.sv_dispatch.specs.Sight.{call_of};
 ghost use Rattle.sv_dispatch.specs.Stages.{table_of, lent_of, IsSound};
+ghost use Rattle.sv_mapping.specs.Filter.{chain};
 
 use crate::calls::{after_at, before_at};
 use crate::hosted::ready_at;
 use crate::stage::Stage;
 use crate::view::View;
-use crate::visit::Visit;
 use std::alloc::{AllocError, Global};
-use sv_mapping::filters_for;
-use sv_servlet::{Before, Call, Filter, Servlet};
+use sv_mapping::{Dispatcher, filters_for};
+use sv_servlet::{Before, Filter, Servlet};
 
 /// What stands after the filter is called.
 fn passes(before: &Before) -> bool
@@ -67,19 +68,19 @@ pub fn run_befores<'a, S: Servlet, F: Filter>(
 /// `after` of the filters that passed, in reverse.
 pub fn run_afters<S: Servlet, F: Filter>(
     stage: &mut Stage<S, F>,
-    call: &Call<'_>,
+    view: &View<'_>,
     mut passed: Vec<usize>,
 ) -> Result<(), AllocError>
     requires { All (IsReadyAt (table_of S.Servlet F.Filter stage.old).filters) passed.items }
     ensures same { table_of S.Servlet F.Filter stage.new ≡ table_of S.Servlet F.Filter stage.old }
     ensures lent { OnOk result (lent_of stage.new ≡ afters (table_of S.Servlet F.Filter stage.old).filters passed.items
-        call.now (lent_of stage.old)) }
+        (call_of view.now 0) (lent_of stage.old)) }
 {
     while let Some(k) = passed.pop() {
         after_at(
             &mut stage.filters,
             k,
-            call,
+            &view.call(0),
             &mut stage.edit,
             &mut stage.reply,
         )?;
@@ -87,55 +88,37 @@ pub fn run_afters<S: Servlet, F: Filter>(
     Ok(())
 }
 
-/// `before` of the filters of a dispatch, which then shows what they have set.
+/// `before` of the filters of a dispatch to a path, which then shows what they have set.
 pub fn begin<'a, S: Servlet, F: Filter>(
     alloc: Global,
     stage: &mut Stage<S, F>,
-    visit: Visit<'a>,
-) -> Result<(Vec<usize>, Visit<'a>, Before), AllocError>
+    dispatcher: Dispatcher,
+    view: View<'a>,
+    path: &str,
+    servlet: Option<usize>,
+) -> Result<(Vec<usize>, View<'a>, Before), AllocError>
     requires { IsSound (table_of S.Servlet F.Filter stage.old) }
     ensures same { table_of S.Servlet F.Filter stage.new ≡ table_of S.Servlet F.Filter stage.old }
     ensures ready { IfOk result (λ r. All (IsReadyAt (table_of S.Servlet F.Filter stage.new).filters) r.0.items) }
-    ensures visit { IfOk result (λ r. r.1 ≡ showing r.1.view visit.entry) }
-    ensures begun { IfOk result (λ r. begun r.0.items r.1.view r.2 (lent_of stage.new)
+    ensures begun { IfOk result (λ r. begun r.0.items r.1 r.2 (lent_of stage.new)
         ≡ befores (table_of S.Servlet F.Filter stage.old).filters
-        (chain_of (table_of S.Servlet F.Filter stage.old) visit.entry) visit.entry.view (lent_of stage.old)) }
+        (chain_of (table_of S.Servlet F.Filter stage.old) (visit dispatcher view.entry path.now servlet)) view.entry (lent_of stage.old)) }
 {
-    let chain = chain_of(alloc, stage, &visit)?;
-    let Visit {
-        dispatcher,
-        view,
-        path,
-        servlet,
-    } = visit;
-    let (passed, view, before) = run_befores(alloc, stage, view, chain.as_slice())?;
-    Ok((
-        passed,
-        Visit {
-            dispatcher,
-            view,
-            path,
-            servlet,
-        },
-        before,
-    ))
+    let chain = chain_of(alloc, stage, dispatcher, path, servlet)?;
+    run_befores(alloc, stage, view, chain.as_slice())
 }
 
-/// The filters of a dispatch, by their numbers.
+/// The filters of a dispatch to a path, by their numbers.
 fn chain_of<S: Servlet, F: Filter>(
     alloc: Global,
     stage: &Stage<S, F>,
-    visit: &Visit<'_>,
+    dispatcher: Dispatcher,
+    path: &str,
+    servlet: Option<usize>,
 ) -> Result<Vec<usize>, AllocError>
-    ensures { IfOk result (λ chain. chain.items ≡ chain_of (table_of S.Servlet F.Filter stage.now) visit.now) }
+    ensures { IfOk result (λ filters. filters.items ≡ chain (table_of S.Servlet F.Filter stage.now).chains path.now servlet dispatcher) }
 {
-    match filters_for(
-        alloc,
-        stage.chains.as_slice(),
-        visit.path.as_str(),
-        visit.servlet,
-        visit.dispatcher,
-    ) {
+    match filters_for(alloc, stage.chains.as_slice(), path, servlet, dispatcher) {
         Ok(chain) => Ok(chain),
         Err(_) => Err(AllocError),
     }

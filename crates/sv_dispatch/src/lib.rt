@@ -1,10 +1,10 @@
 //! The dispatcher: a call goes through filters to a servlet, and on by forwards and includes to others (Jakarta
 //! Servlet 6.0, chapters "Dispatching Requests" and "Filtering").
 //!
-//! Stands on servlets, the mapping and the reading of targets. [`run`] keeps the dispatches that wait on a stack of its own, so a servlet that
-//! asks for another dispatch has returned, also where it asks for itself; its contract is the big step of
-//! `Dispatching`, by recursion on what the servlets answer, and `Pages` above it. Nothing here knows contexts, sessions
-//! beyond the edit, or connections.
+//! Stands on servlets, the mapping and the reading of targets. [`run_at`] takes a path that is mapped already, and [`run`] maps it. Both keep
+//! the dispatches that wait on a stack of their own, so a servlet that asks for another dispatch has returned, also where it asks for itself;
+//! their contract is the big step of `Dispatching`, by recursion on what the servlets answer, and `Pages` above it. A request that one call of
+//! a servlet answers needs no stack. Nothing here knows contexts, sessions beyond the edit, or connections.
 #![tactic(auto)]
 
 mod attributes;
@@ -12,6 +12,7 @@ mod calls;
 mod chain;
 mod changes;
 mod destination;
+mod first;
 mod hosted;
 pub mod laws;
 mod mapped_path;
@@ -26,5 +27,5 @@ mod visit;
 
 pub use hosted::Hosted;
 pub use page::{ErrorPage, PageFor};
-pub use request::{Ended, run};
+pub use request::{Ended, run, run_at};
 pub use stage::Stage;

@@ -2,12 +2,14 @@
 
 ghost use Rattle.std.specs.Prelude.{◌≡◌, ℕ, ◌≤◌, IfOk};
 ghost use Rattle.sv_dispatch.specs.Dispatching.{outcome};
+ghost use Rattle.sv_dispatch.specs.MappedPath.{mapped_path_of};
 ghost use Rattle.sv_dispatch.specs.Pages as spec;
 ghost use Rattle.sv_dispatch.specs.Sight.{errored, first_sight};
 ghost use Rattle.sv_dispatch.specs.Stages.{table_of, lent_of, IsSound};
 
+use crate::first::dispatch_first;
 use crate::hosted::name_at;
-use crate::mapped_path::mapped_path_of;
+use crate::mapped_path::{mapped_path_of, servlet_of};
 use crate::mode::Ending;
 use crate::page::{page_of_error, page_of_fault};
 use crate::stack::dispatch;
@@ -172,7 +174,29 @@ fn settle<'a, S: Servlet, F: Filter>(
     }
 }
 
-/// Dispatches a request, and an error that comes of it to the context's error page.
+/// Dispatches a request for a path that is mapped already, and an error that comes of it to the context's error page.
+///
+/// The call's servlet path and path info together are the path, within the context; it is mapped to the servlet.
+pub fn run_at<S: Servlet, F: Filter>(
+    alloc: Global,
+    stage: &mut Stage<S, F>,
+    call: Call<'_>,
+    path: &str,
+    servlet: Option<usize>,
+) -> Result<Ended, AllocError>
+    requires sound { IsSound (table_of S.Servlet F.Filter stage.old) }
+    requires path { path.now ≡ spec.path_of call }
+    requires servlet { servlet ≡ (mapped_path_of (table_of S.Servlet F.Filter stage.old).patterns path.now).servlet }
+    ensures same { table_of S.Servlet F.Filter stage.new ≡ table_of S.Servlet F.Filter stage.old }
+    ensures ran { IfOk result (λ ended. spec.ran ended (lent_of stage.new)
+        ≡ spec.served (table_of S.Servlet F.Filter stage.old) call.entry (lent_of stage.old)) }
+{
+    let mut left = CALLS;
+    let ended = dispatch_first(alloc, stage, &mut left, View::of(&call), path, servlet)?;
+    settle(alloc, stage, left, &call, ended)
+}
+
+/// The same for a request whose path is still to be mapped.
 ///
 /// The call's servlet path and path info together are the request's path within the context.
 pub fn run<S: Servlet, F: Filter>(
@@ -185,12 +209,7 @@ pub fn run<S: Servlet, F: Filter>(
     ensures ran { IfOk result (λ ended. spec.ran ended (lent_of stage.new)
         ≡ spec.served (table_of S.Servlet F.Filter stage.old) call.entry (lent_of stage.old)) }
 {
-    let mut left = CALLS;
-    let ask = Ask {
-        dispatcher: Dispatcher::Request,
-        view: View::of(&call),
-        path: path_of(alloc, &call)?,
-    };
-    let ended = dispatch(alloc, stage, &mut left, ask)?;
-    settle(alloc, stage, left, &call, ended)
+    let path = path_of(alloc, &call)?;
+    let servlet = servlet_of(&stage.patterns, path.as_str());
+    run_at(alloc, stage, call, path.as_str(), servlet)
 }

@@ -1,8 +1,8 @@
 //! The dispatches that wait for one another, on a stack of their own.
 
-ghost use Rattle.std.specs.Prelude.{◌≡◌, ◌<◌, ◌++◌, ◌∷◌, [], IfOk, OnOk};
+ghost use Rattle.std.specs.Prelude.{◌≡◌, ◌<◌, ◌≤◌, ◌++◌, ◌∷◌, [], IfOk, OnOk};
 ghost use Rattle.sv_dispatch.specs.Dispatching.{outcome, dispatched};
-ghost use Rattle.sv_dispatch.specs.Stack.{IsRunning, IsOn, whole, work};
+ghost use Rattle.sv_dispatch.specs.Stack.{current, need, whole, work, IsModeOf, IsOn, IsRunning};
 ghost use Rattle.sv_dispatch.specs.Stages.{table_of, lent_of, IsSound};
 ghost use Rattle.sv_dispatch.specs.declared.mode.Mode.TheVariants.{Enter};
 
@@ -64,6 +64,32 @@ fn step<'a, S: Servlet, F: Filter>(
     }
 }
 
+/// Runs what is left of a dispatch that no other waits for, with all that it asks for; `left` service calls are left.
+// Apart, so that what ends by itself has no room cleared for a stack.
+#[inline(never)]
+pub fn run_from<'a, S: Servlet, F: Filter>(
+    alloc: Global,
+    stage: &mut Stage<S, F>,
+    left: &mut u32,
+    mode: Mode<'a>,
+) -> Result<Ending, AllocError>
+    requires sound { IsSound (table_of S.Servlet F.Filter stage.old) }
+    requires mode { IsModeOf (table_of S.Servlet F.Filter stage.old) mode }
+    requires need { need mode ≤ 1 }
+    ensures same { table_of S.Servlet F.Filter stage.new ≡ table_of S.Servlet F.Filter stage.old }
+    ensures outcome { IfOk result (λ ended. outcome ended left.new (lent_of stage.new)
+        ≡ current (table_of S.Servlet F.Filter stage.old) 16 mode.entry left.old (lent_of stage.old)) }
+{
+    let mut frames = Vec::new(alloc);
+    let mut mode = mode;
+    loop {
+        match mode {
+            Mode::Leave(ended) if frames.is_empty() => return Ok(ended),
+            other => mode = step(alloc, stage, &mut frames, left, other)?,
+        }
+    }
+}
+
 /// Runs a dispatch with all that it asks for; `left` service calls are left.
 pub fn dispatch<'a, S: Servlet, F: Filter>(
     alloc: Global,
@@ -76,12 +102,5 @@ pub fn dispatch<'a, S: Servlet, F: Filter>(
     ensures outcome { IfOk result (λ ended. outcome ended left.new (lent_of stage.new)
         ≡ dispatched (table_of S.Servlet F.Filter stage.old) 16 ask.entry left.old (lent_of stage.old)) }
 {
-    let mut frames = Vec::new(alloc);
-    let mut mode = Mode::Enter(ask);
-    loop {
-        match mode {
-            Mode::Leave(ended) if frames.is_empty() => return Ok(ended),
-            other => mode = step(alloc, stage, &mut frames, left, other)?,
-        }
-    }
+    run_from(alloc, stage, left, Mode::Enter(ask))
 }

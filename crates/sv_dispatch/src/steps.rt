@@ -34,6 +34,25 @@ fn sent(view: &View<'_>, code: u16, text: Text) -> Ending
 }
 
 /// Ends a dispatch that was not abandoned.
+pub fn end<S: Servlet, F: Filter>(
+    stage: &mut Stage<S, F>,
+    view: View<'_>,
+    passed: Vec<usize>,
+    ended: Ending,
+) -> Result<Ending, AllocError>
+    requires ready { All (IsReadyAt (table_of S.Servlet F.Filter stage.old).filters) passed.items }
+    requires kept { ended ≢ Abandoned }
+    ensures same { table_of S.Servlet F.Filter stage.new ≡ table_of S.Servlet F.Filter stage.old }
+    ensures ended { IfOk result (λ over. over ≡ ended) }
+    ensures closed { OnOk result ((left : ℕ) → outcome ended left (lent_of stage.new)
+        ≡ closed (table_of S.Servlet F.Filter stage.old).filters passed.items (call_of view.entry 0)
+        (outcome ended left (lent_of stage.old))) }
+{
+    run_afters(stage, &view, passed)?;
+    Ok(ended)
+}
+
+/// Ends a dispatch that was not abandoned, and goes back to the one that waits for it.
 fn finish<'a, S: Servlet, F: Filter>(
     stage: &mut Stage<S, F>,
     view: View<'a>,
@@ -48,27 +67,27 @@ fn finish<'a, S: Servlet, F: Filter>(
         ≡ closed (table_of S.Servlet F.Filter stage.old).filters passed.items (call_of view.entry 0)
         (outcome ended left (lent_of stage.old))) }
 {
-    run_afters(stage, &view.call(0), passed)?;
-    Ok(Mode::Leave(ended))
+    Ok(Mode::Leave(end(stage, view, passed, ended)?))
 }
 
 /// The servlet that is to be called after the filters, or how the dispatch ends without it.
-fn to_serve<S: Servlet, F: Filter>(
+pub fn to_serve<S: Servlet, F: Filter>(
     alloc: Global,
     stage: &Stage<S, F>,
-    visit: &Visit<'_>,
+    view: &View<'_>,
+    servlet: Option<usize>,
     before: Before,
 ) -> Result<usize, Ending>
-    ensures servlet { result ≡ to_serve (table_of S.Servlet F.Filter stage.now).servlets visit.now before }
+    ensures servlet { result ≡ to_serve (table_of S.Servlet F.Filter stage.now).servlets view.now servlet before }
     ensures kept { IfErr result (λ ended. ended ≢ Abandoned) }
 {
     match before {
-        Before::Pass | Before::PassWith { .. } => match servlet_at(stage, visit.servlet) {
+        Before::Pass | Before::PassWith { .. } => match servlet_at(stage, servlet) {
             Some(servlet) => Ok(servlet),
-            None => Err(sent(&visit.view, 404, Text::new(alloc))),
+            None => Err(sent(view, 404, Text::new(alloc))),
         },
         Before::Stop => Err(Ending::Finished),
-        Before::SendError { code, text } => Err(sent(&visit.view, code, text)),
+        Before::SendError { code, text } => Err(sent(view, code, text)),
         Before::Fault(name) => Err(Ending::Faulted(name)),
     }
 }
@@ -88,15 +107,21 @@ fn open<'a, S: Servlet, F: Filter>(
         (lent_of stage.new) ≡ performed (table_of S.Servlet F.Filter stage.old)
         (dispatched (table_of S.Servlet F.Filter stage.old) e) visit.entry left (lent_of stage.old)) }
 {
-    let (passed, visit, before) = begin(alloc, stage, visit)?;
-    match to_serve(alloc, stage, &visit, before) {
+    let Visit {
+        dispatcher,
+        view,
+        path,
+        servlet,
+    } = visit;
+    let (passed, view, before) = begin(alloc, stage, dispatcher, view, path.as_str(), servlet)?;
+    match to_serve(alloc, stage, &view, servlet, before) {
         Ok(servlet) => Ok(Mode::Serve(Open {
-            view: visit.view,
+            view,
             passed,
             servlet,
             resume: 0,
         })),
-        Err(ended) => finish(stage, visit.view, passed, ended),
+        Err(ended) => finish(stage, view, passed, ended),
     }
 }
 
@@ -145,7 +170,7 @@ fn nest<'a>(
 }
 
 /// What follows a servlet's answer.
-fn follow<'a, S: Servlet, F: Filter>(
+pub fn follow<'a, S: Servlet, F: Filter>(
     stage: &mut Stage<S, F>,
     held: Open<'a>,
     next: Next,

@@ -59,8 +59,6 @@ fn shown<'a>(
 }
 
 /// The dispatch to a target.
-// Apart, so that a request, which has none, has no room cleared for one.
-#[inline(never)]
 fn visit_at<'a, S: Servlet, F: Filter>(
     alloc: Global,
     stage: &Stage<S, F>,

@@ -9,7 +9,7 @@ pub loop-k-preserved : goal.loop-k-preserved
 loop-k-preserved g c = record {
   same = filters_kept _ _ _ c.loop-k.invariant.same c.after_at.ensures.same;
   ready = ready_front _ _ _ _ c.in-Some.ensures.items c.loop-k.invariant.ready;
-  rest = afters_pop _ _ _ _ _ _ _ _ _ (ap (λ t. t.filters) c.loop-k.invariant.same) c.in-Some.ensures.items c.in_ok-after_at.ensures.answer c.loop-k.invariant.rest;
+  rest = afters_pop _ _ _ _ _ _ _ _ _ _ (ap (λ t. t.filters) c.loop-k.invariant.same) c.in-Some.ensures.items c.call.ensures c.in_ok-after_at.ensures.answer c.loop-k.invariant.rest;
 }
 
 pub returns-in_err-after_at-clause-same : goal.returns-in_err-after_at-clause-same

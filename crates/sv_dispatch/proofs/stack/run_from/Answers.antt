@@ -1,12 +1,12 @@
 use Rattle.sv_dispatch.proofs.Prelude.{refl}
 use Rattle.std.proofs.Common.{rules}
 use Rattle.sv_dispatch.proofs.StepLemmas.{starts, starts_running, ends, no_frames}
-use Rattle.sv_dispatch.proofs.stack.dispatch.Goals as goal
+use Rattle.sv_dispatch.proofs.stack.run_from.Goals as goal
 
 pub loop-mode-init : goal.loop-mode-init
 loop-mode-init g c = record {
   same = refl;
-  running = starts_running _ _ _ c.new-frames.ensures.items;
+  running = starts_running _ _ _ c.new-frames.ensures.items c.requires.mode c.requires.need;
   whole = starts _ _ _ _ _ c.new-frames.ensures.items;
 }
 
