@@ -1,11 +1,11 @@
 -- The dispatch of a request by one call of a servlet.
 use Rattle.sv_dispatch.proofs.Prelude.{◌≡◌, ℕ, suc, ◌+◌, List, ap, ◌∙◌, Option, Result, Ok, Err, IfOk, OnOk, IfOk-weaker, Request, Asked, Lent, Next, Table}
 use Rattle.sv_dispatch.proofs.Prelude.{Outcome, outcome, ask, dispatched, performed, visit_of, mapped_path_of, served, Sight, call_of, current, opened, Open}
-use Rattle.sv_dispatch.proofs.Prelude.{Mode, Ending, Visit, Before, begun}
+use Rattle.sv_dispatch.proofs.Prelude.{Mode, Ending, Visit, Begun}
 use Rattle.sv_servlet.specs.Servlet.{answer}
-use Rattle.sv_dispatch.specs.Dispatching.{to_serve, visit}
-use Rattle.sv_dispatch.specs.Stack.{followed}
-use Rattle.sv_dispatch.proofs.OpenLemmas.{began, opens_at}
+use Rattle.sv_dispatch.specs.Dispatching.{visit}
+use Rattle.sv_dispatch.specs.Stack.{behind_filters, followed}
+use Rattle.sv_dispatch.proofs.OpenLemmas.{began, performs}
 use Rattle.sv_dispatch.proofs.RunLemmas.{serve_one}
 
 -- a dispatch that ended as it should
@@ -26,12 +26,16 @@ pub serves_first : {E : Type 0} (r : Result Ending E) (t u : Table) (o : Open) (
 serves_first r t u o left n l m after next seen f w h a v =
     IfOk-weaker r _ _ (λ ended e. e ∙ ap (λ (x : Table). followed x 15 o n m next) w ∙ serve_one t 15 o left n l m next seen h a v) f
 
--- a request's filters pass, and its servlet is called
-pub opens_first : {E : Type 0} (r : Result Ending E) (t u : Table) (v : Visit) (left : ℕ) (l m : Lent) (b : Before) (o : Open) (after : Ending → Outcome) (target : Outcome) →
-    IfOk r (λ ended. after ended ≡ opened u 15 o left m) → begun o.passed.items o.view b m ≡ began t v l → o.resume ≡ 0 → u ≡ t → Ok o.servlet ≡ to_serve u.servlets o.view v.servlet b →
-    performed t (dispatched t 15) v left l ≡ target → IfOk r (λ ended. after ended ≡ target)
-opens_first r t u v left l m b o after target f h z w q k =
-    IfOk-weaker r _ _ (λ ended e. e ∙ ap (λ (x : Table). opened x 15 o left m) w ∙ opens_at t u 15 v left l m b o h z w q ∙ k) f
+-- what follows a request's filters, where they leave the table as it was
+pub behind_first : {E : Type 0} (r : Result Ending E) (t u : Table) (servlet : Option ℕ) (left : ℕ) (g h : Begun) (after : Ending → Outcome) →
+    IfOk r (λ ended. after ended ≡ behind_filters u 15 servlet left g) → u ≡ t → g ≡ h → IfOk r (λ ended. after ended ≡ behind_filters t 15 servlet left h)
+behind_first r t u servlet left g h after f w k =
+    IfOk-weaker r _ _ (λ ended e. e ∙ ap (λ (x : Table). behind_filters x 15 servlet left g) w ∙ ap (behind_filters t 15 servlet left) k) f
+
+-- and that is all of the request
+pub performs_first : {E : Type 0} (r : Result Ending E) (t : Table) (v : Visit) (left : ℕ) (l : Lent) (g : Begun) (after : Ending → Outcome) (target : Outcome) →
+    IfOk r (λ ended. after ended ≡ behind_filters t 15 v.servlet left g) → g ≡ began t v l → performed t (dispatched t 15) v left l ≡ target → IfOk r (λ ended. after ended ≡ target)
+performs_first r t v left l g after target f h k = IfOk-weaker r _ _ (λ ended e. e ∙ performs t 15 v left l g h ∙ k) f
 
 -- a request for a path that is mapped to a servlet
 pub enters_mapped : (t : Table) (e : ℕ) (s : Sight) (path : List ℕ) (servlet : Option ℕ) (left : ℕ) (l : Lent) → servlet ≡ (mapped_path_of t.patterns path).servlet →

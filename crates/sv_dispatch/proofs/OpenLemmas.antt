@@ -1,12 +1,13 @@
 -- The filters before a servlet, and the servlet that is found.
 use Rattle.sv_dispatch.proofs.Prelude.{◌≡◌, ℕ, suc, Bool, true, false, cond, List, [], ◌∷◌, arith, sym, ◌∙◌, ap, refl, Some, None, Option, Result, Ok, Err}
-use Rattle.sv_dispatch.proofs.Prelude.{IfOk, subst, All, All-cons, All-nil, Asked, Filters, Lent, Before, Pass, PassWith, Stop, Table, Outcome, outcome, Begun}
-use Rattle.sv_dispatch.proofs.Prelude.{begun, befores, afters, begun_by, chain_of, closed, dispatched, performed, placed, serving, showing, entered, visit_of}
+use Rattle.sv_dispatch.proofs.Prelude.{IfOk, subst, All, All-cons, All-nil, Asked, Filters, Lent, Before, Pass, PassWith, Stop, Table, outcome, Begun}
+use Rattle.sv_dispatch.proofs.Prelude.{begun, befores, afters, begun_by, chain_of, closed, dispatched, performed, placed, showing, entered, visit_of}
 use Rattle.sv_dispatch.proofs.Prelude.{Row, IsReadyAt, labels_of_rows, ready_at, Sight, call_of, opened, IsOpen, Ask, Ending, Finished, Failed, Faulted}
 use Rattle.sv_dispatch.proofs.Prelude.{Abandoned, Open, Visit}
 use Rattle.std.proofs.Common.{◌≢◌}
 use Rattle.sv_servlet.specs.declared.filter.Before.TheVariants.{SendError, Fault}
 use Rattle.sv_dispatch.specs.Dispatching.{found_or_sent, bad_path, to_serve}
+use Rattle.sv_dispatch.specs.Stack.{behind_filters, continued}
 use Rattle.sv_dispatch.specs.Stages.{IsSound}
 use Rattle.sv_dispatch.proofs.SoundLemmas.{chain_all, servlet_ready}
 
@@ -28,11 +29,6 @@ performed_by : (t : Table) (e : ℕ) (v : Visit) (s : Sight) (left : ℕ) (l m :
 unfolding performed
 performed_by t e v s left l m ps b h =
     ap (λ (g : Begun). closed t.filters g.passed (call_of g.view 0) (begun_by (dispatched t e) t.servlets (showing g.view v) left g.lent g.before)) h
-
--- a dispatch from its servlet on, or its end without one
-abbrev continued : Table → ℕ → Sight → ℕ → Lent → Result ℕ Ending → Outcome
-continued t e s left m (Ok k) = serving (dispatched t e) t.servlets left k s 0 left m
-continued t e s left m (Err ended) = outcome ended left m
 
 placed_on : (t : Table) (e : ℕ) (s : Sight) (left : ℕ) (m : Lent) (found : Option ℕ) → placed (dispatched t e) t.servlets s left m found ≡ continued t e s left m (found_or_sent s found)
 placed_on t e s left m None = refl
@@ -63,6 +59,25 @@ pub opens_not : (t u : Table) (e : ℕ) (v : Visit) (s : Sight) (left : ℕ) (l 
     → Err ended ≡ to_serve u.servlets s v.servlet b → closed u.filters ps (call_of s 0) (outcome ended left m) ≡ performed t (dispatched t e) v left l
 opens_not t u e v s left l m ps b ended h w q =
     ap (λ (x : Table). closed x.filters ps (call_of s 0) (outcome ended left m)) w ∙ opens_on t u e v s left l m ps b (Err ended) h w q
+
+-- the filters are called, and then what follows them
+pub performs : (t : Table) (e : ℕ) (v : Visit) (left : ℕ) (l : Lent) (g : Begun) → g ≡ began t v l → behind_filters t e v.servlet left g ≡ performed t (dispatched t e) v left l
+performs t e v left l g h = opens_on t t e v g.view left l g.lent g.passed g.before (to_serve t.servlets g.view v.servlet g.before) h refl refl
+
+-- no filter is there
+pub none_before : (fs : List (Row Filters)) (ks : List ℕ) (s : Sight) (l : Lent) → ks ≡ [] → begun ks s Pass l ≡ befores fs ks s l
+unfolding befores
+none_before fs ks s l e = rw e
+
+-- what follows the filters: the servlet is called, or none is
+pub behind_ok : (t : Table) (e left : ℕ) (l : Lent) (servlet : Option ℕ) (b : Before) (o : Open) → o.resume ≡ 0 → Ok o.servlet ≡ to_serve t.servlets o.view servlet b
+    → opened t e o left l ≡ behind_filters t e servlet left (begun o.passed.items o.view b l)
+unfolding opened
+behind_ok t e left l servlet b o r q = rw r (ap (λ (x : Result ℕ Ending). closed t.filters o.passed.items (call_of o.view 0) (continued t e o.view left l x)) q)
+
+pub behind_err : (t : Table) (e left : ℕ) (s : Sight) (l : Lent) (servlet : Option ℕ) (ps : List ℕ) (b : Before) (ended : Ending) → Err ended ≡ to_serve t.servlets s servlet b
+    → closed t.filters ps (call_of s 0) (outcome ended left l) ≡ behind_filters t e servlet left (begun ps s b l)
+behind_err t e left s l servlet ps b ended q = ap (λ (x : Result ℕ Ending). closed t.filters ps (call_of s 0) (continued t e s left l x)) q
 
 -- the path of a dispatch was read, or refused
 pub enters : (t : Table) (e : ℕ) (a : Ask) (v : Visit) (left : ℕ) (l : Lent) → Some v ≡ visit_of t a → performed t (dispatched t e) v left l ≡ dispatched t (suc e) a left l

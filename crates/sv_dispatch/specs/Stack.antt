@@ -1,11 +1,12 @@
 -- The explicit stack: what the dispatches that wait make of a result.
-use Rattle.std.specs.Prelude.{ℕ, zero, suc, ◌+◌, ◌-◌, ◌*◌, ◌≤◌, List, [], ◌∷◌, All, length, reverse}
+use Rattle.std.specs.Prelude.{ℕ, zero, suc, ◌+◌, ◌-◌, ◌*◌, ◌≤◌, List, [], ◌∷◌, All, Err, Ok, Option, Result, length, reverse}
 use Rattle.sv_mapping.specs.declared.dispatcher.Dispatcher.{Dispatcher}
 use Rattle.sv_servlet.specs.Servlet.{Lent}
 use Rattle.sv_servlet.specs.declared.servlet.Next.{Next}
-use Rattle.sv_dispatch.specs.Dispatching.{Table, Outcome, outcome, answered, dispatched, serving, closed, resumed}
+use Rattle.sv_dispatch.specs.Dispatching.{Begun, Table, Outcome, outcome, answered, dispatched, serving, closed, resumed, to_serve}
 use Rattle.sv_dispatch.specs.Rows.{IsReadyAt}
-use Rattle.sv_dispatch.specs.Sight.{call_of}
+use Rattle.sv_dispatch.specs.Sight.{Sight, call_of}
+use Rattle.sv_dispatch.specs.declared.mode.Ending.{Ending}
 use Rattle.sv_dispatch.specs.declared.mode.Ending.TheVariants.{Abandoned}
 use Rattle.sv_dispatch.specs.declared.mode.Frame.{Frame}
 use Rattle.sv_dispatch.specs.declared.mode.Mode.{Mode}
@@ -38,6 +39,15 @@ reentered t e f r = closed_open t f.held (awaited t e f.held f.then r)
 abbrev pub at_depth : ℕ → ℕ → Lent → (ℕ → Outcome) → Outcome
 at_depth zero left l go = outcome Abandoned left l
 at_depth (suc e) left l go = go e
+
+-- what a dispatch gives from its servlet on, or where it ends without one
+abbrev pub continued : Table → ℕ → Sight → ℕ → Lent → Result ℕ Ending → Outcome
+continued t e s left l (Ok k) = serving (dispatched t e) t.servlets left k s 0 left l
+continued t e s left l (Err ended) = outcome ended left l
+
+-- and from the end of its filters' `before` on
+abbrev pub behind_filters : Table → ℕ → Option ℕ → ℕ → Begun → Outcome
+behind_filters t e servlet left b = closed t.filters b.passed (call_of b.view 0) (continued t e b.view left b.lent (to_serve t.servlets b.view servlet b.before))
 
 -- what is to come of a mode
 abbrev pub current : Table → ℕ → Mode → ℕ → Lent → Outcome

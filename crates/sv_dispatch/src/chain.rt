@@ -109,7 +109,7 @@ pub fn begin<'a, S: Servlet, F: Filter>(
 }
 
 /// The filters of a dispatch to a path, by their numbers.
-fn chain_of<S: Servlet, F: Filter>(
+pub fn chain_of<S: Servlet, F: Filter>(
     alloc: Global,
     stage: &Stage<S, F>,
     dispatcher: Dispatcher,

@@ -34,6 +34,7 @@ fn sent(view: &View<'_>, code: u16, text: Text) -> Ending
 }
 
 /// Ends a dispatch that was not abandoned.
+#[inline(always)]
 pub fn end<S: Servlet, F: Filter>(
     stage: &mut Stage<S, F>,
     view: View<'_>,
@@ -71,6 +72,7 @@ fn finish<'a, S: Servlet, F: Filter>(
 }
 
 /// The servlet that is to be called after the filters, or how the dispatch ends without it.
+#[inline(always)]
 pub fn to_serve<S: Servlet, F: Filter>(
     alloc: Global,
     stage: &Stage<S, F>,

@@ -229,6 +229,7 @@ impl<'a> View<'a> {
     }
 
     /// The call of a servlet or a filter of the dispatch.
+    #[inline(always)]
     pub fn call(&self, resume: u16) -> Call<'_>
         ensures { result ≡ call_of self.now resume }
     {

@@ -1,25 +1,30 @@
-use Rattle.sv_dispatch.proofs.Prelude.{◌∙◌, sym, refl, Request, Table, Visit, lent_of, table_of}
+use Rattle.sv_dispatch.proofs.Prelude.{◌∙◌, ap, ℕ, List, Request, Table, Visit, befores, lent_of, table_of}
+use Rattle.std.proofs.Common.{rules}
 use Rattle.sv_dispatch.specs.Dispatching.{visit}
-use Rattle.sv_dispatch.proofs.FirstLemmas.{ended_by, enters_mapped, opens_first}
-use Rattle.sv_dispatch.proofs.OpenLemmas.{opens, opens_not}
-use Rattle.sv_dispatch.proofs.RunLemmas.{stays_open}
+use Rattle.sv_dispatch.proofs.ChainLemmas.{no_items}
+use Rattle.sv_dispatch.proofs.FirstLemmas.{enters_mapped, performs_first}
+use Rattle.sv_dispatch.proofs.OpenLemmas.{chain_ready, none_before}
 use Rattle.sv_dispatch.proofs.first.dispatch_first.Goals as goal
 
-pub serve_first-requires-clause-held : goal.serve_first-requires-clause-held
-serve_first-requires-clause-held g c = stays_open _ _ _ c.begin.ensures.same (opens _ _ _ _ _ _ c.requires.sound c.begin.ensures.same (sym c.in-Ok.is ∙ c.to_serve.ensures.servlet) c.in_ok-passed.ensures.ready)
+pub place_first-requires-clause-ready : goal.place_first-requires-clause-ready
+place_first-requires-clause-ready g c = chain_ready _ _ (visit Request c.args.view c.args.path.now c.args.servlet) c.requires.sound c.in_ok-chain.ensures
 
-pub returns-in-Ok-clause-outcome : goal.returns-in-Ok-clause-outcome
-returns-in-Ok-clause-outcome g c =
+pub filter_first-requires-clause-ready : goal.filter_first-requires-clause-ready
+filter_first-requires-clause-ready g c = chain_ready _ _ (visit Request c.args.view c.args.path.now c.args.servlet) c.requires.sound c.in_ok-chain.ensures
+
+pub returns-then-is_empty-clause-outcome : goal.returns-then-is_empty-clause-outcome
+returns-then-is_empty-clause-outcome g c =
     let t : Table = table_of g.S.Servlet g.F.Filter c.args.stage.now in
-    opens_first c.serve_first.result t _ (visit Request c.args.view c.args.path.now c.args.servlet) _ _ _ _ _ _ _ c.serve_first.ensures.outcome c.in_ok-passed.ensures.begun refl c.begin.ensures.same
-    (sym c.in-Ok.is ∙ c.to_serve.ensures.servlet)
+    let v : Visit = visit Request c.args.view c.args.path.now c.args.servlet in
+    performs_first c.place_first.result t v _ (lent_of c.args.stage.now) _ _ _ c.place_first.ensures.outcome
+    (none_before t.filters c.in_ok-chain.chain.items c.args.view (lent_of c.args.stage.now) (no_items _ _ c.in_ok-chain.chain.ok.0 (search rules))
+    ∙ ap (λ (ks : List ℕ). befores t.filters ks c.args.view (lent_of c.args.stage.now)) c.in_ok-chain.ensures)
     (enters_mapped t 15 c.args.view c.args.path.now c.args.servlet c.args.left.now (lent_of c.args.stage.now) c.requires.servlet)
 
-pub returns-in-Err-clause-outcome : goal.returns-in-Err-clause-outcome
-returns-in-Err-clause-outcome g c =
+pub returns-else-is_empty-clause-outcome : goal.returns-else-is_empty-clause-outcome
+returns-else-is_empty-clause-outcome g c =
     let t : Table = table_of g.S.Servlet g.F.Filter c.args.stage.now in
-    ended_by c.end.result _ c.args.left.now _ _ c.end.ensures.ended c.end.ensures.closed
-    (λ p. p c.args.left.now
-    ∙ opens_not t _ 15 (visit Request c.args.view c.args.path.now c.args.servlet) _ c.args.left.now _ _ _ _ _ c.in_ok-passed.ensures.begun c.begin.ensures.same
-    (sym c.in-Err.is ∙ c.to_serve.ensures.servlet)
-    ∙ enters_mapped t 15 c.args.view c.args.path.now c.args.servlet c.args.left.now (lent_of c.args.stage.now) c.requires.servlet)
+    let v : Visit = visit Request c.args.view c.args.path.now c.args.servlet in
+    performs_first c.filter_first.result t v _ (lent_of c.args.stage.now) _ _ _ c.filter_first.ensures.outcome
+    (ap (λ (ks : List ℕ). befores t.filters ks c.args.view (lent_of c.args.stage.now)) c.in_ok-chain.ensures)
+    (enters_mapped t 15 c.args.view c.args.path.now c.args.servlet c.args.left.now (lent_of c.args.stage.now) c.requires.servlet)
