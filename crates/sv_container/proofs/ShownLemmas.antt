@@ -1,5 +1,5 @@
 -- How a path within a context is shown.
-use Rattle.sv_container.proofs.Prelude.{◌≡◌, ℕ, List, [], ◌∷◌, ◌++◌, ◌∙◌, ap, refl, sym, true, Option, Some, None, take, drop, length, append-nil, bytes_eq-Decides}
+use Rattle.sv_container.proofs.Prelude.{◌≡◌, ℕ, List, [], ◌∷◌, ◌++◌, ◌∙◌, ap, refl, sym, true, Some, None, take, drop, length, append-nil, bytes_eq-Decides}
 use Rattle.std.proofs.Common.{codes, if◌then◌else◌}
 use Rattle.std.proofs.lemmas.List.{take-append-drop}
 use Rattle.sv_mapping.proofs.PathLemmas.{IsFront-from_test}
